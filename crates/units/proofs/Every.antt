@@ -1,0 +1,34 @@
+-- The laws of `every`: one place more, and what it says of each place. Assumes nothing.
+use Prim.Native.Nat.{ℕ, zero, suc, _+_, _≤_, _<_}
+use native.Mathlib.Omega.{arith}
+use native.Mathlib.Numerals.{add-one}
+use native.Mathlib.Decide.{decLt}
+use mathlib.Core.Path.{_≡_, refl, sym, ap, subst, _∙_}
+use mathlib.Core.Bool.{Bool, true, false, _&&_}
+use mathlib.Core.Logic.{by-cases}
+use Rattle.units.specs.Every.{every}
+
+-- what a loop finds that has passed i places and passes one more
+pub every-more : (f : ℕ → Bool) (i : ℕ) (fit r : Bool) → fit ≡ every f i → r ≡ f i → (fit && r) ≡ every f (i + 1)
+unfolding every
+every-more f i fit r p q = rw (add-one, p, q)
+
+pub and-left : (a b : Bool) → (a && b) ≡ true → a ≡ true
+and-left true b h = refl
+and-left false b h = h
+
+pub and-right : (a b : Bool) → (a && b) ≡ true → b ≡ true
+and-right true b h = h
+and-right false b h = let z : _≡_ {A = ℕ} 0 1 = cc in absurd (omega arith)
+
+pub every-at : (f : ℕ → Bool) (n i : ℕ) → every f n ≡ true → i < n → f i ≡ true
+unfolding every
+every-at f zero i h k = absurd (omega arith)
+every-at f (suc n) i h k =
+    by-cases (decLt i n) (λ l. every-at f n i (and-left (every f n) (f n) h) l)
+    (λ l. let e : n ≡ i = omega arith in rw e at (and-right (every f n) (f n) h))
+
+pub every-all : (f : ℕ → Bool) (n : ℕ) → ((i : ℕ) → i < n → f i ≡ true) → every f n ≡ true
+unfolding every
+every-all f zero h = refl
+every-all f (suc n) h = rw (every-all f n (λ i k. h i (omega arith)), h n (omega arith))

@@ -1,0 +1,24 @@
+use Prim.Native.Nat.{ℕ}
+use native.Mathlib.Omega.{arith}
+use mathlib.Core.Path.{ap}
+use Rattle.units.specs.declared.labels.StateLabel.{StateLabel}
+use borrow.Author.Needs.{needs}
+use Rattle.units.proofs.labels.RoundLabel.previous.Statement.{statement}
+use Rattle.units.proofs.labels.RoundLabel.previous.Tie as tie
+use Rattle.units.proofs.labels.RoundLabel.previous.Reads as reads
+use Rattle.units.proofs.labels.RoundLabel.previous.Lts as lts
+
+-- src/labels.rt:48:24
+sub-t4 : tie.Need-sub-t4
+sub-t4 c = search needs
+
+-- src/labels.rt:44:5
+returns : tie.Need-returns
+returns c = search needs
+
+-- src/labels.rt:44:5
+returns-2 : tie.Need-returns-2
+returns-2 c = ap {B = StateLabel} (λ (n : ℕ). record { 0 = n }) (omega arith)
+
+pub previous-spec : {M : Type 1} → statement M
+previous-spec = tie.close (tie.spec sub-t4 returns returns-2)

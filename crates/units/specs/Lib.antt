@@ -1,0 +1,7 @@
+-- The definitions of `units`.
+pub mod Limits
+pub mod Labels
+pub mod Refusal
+pub mod Mask
+pub mod Every
+pub mod Settings

@@ -1,0 +1,42 @@
+-- Document 01's table of refusals: the number of each, and what 15 carries.
+use Prim.Native.Nat.{ℕ}
+use mathlib.Core.List.{List, [], _∷_}
+use Rattle.units.specs.declared.refusal.Refusal.{Refusal}
+use Rattle.units.specs.declared.refusal.Refusal.the-variants.{Long, Unended, Kind, Fields, Form, Range, Own, Late, Closed, Other, Clash, Undecided, Lacking, Behind, Settings, Room}
+
+abbrev pub numberOf : Refusal → ℕ
+numberOf Long = 1
+numberOf Unended = 2
+numberOf Kind = 3
+numberOf Fields = 4
+numberOf Form = 5
+numberOf Range = 6
+numberOf Own = 7
+numberOf Late = 8
+numberOf Closed = 9
+numberOf Other = 10
+numberOf Clash = 11
+numberOf Undecided = 12
+numberOf Lacking = 13
+numberOf Behind = 14
+numberOf (Settings line reason) = 15
+numberOf Room = 16
+
+-- "line number from 1, and 1..6 as reason"
+abbrev pub valuesOf : Refusal → List ℕ
+valuesOf Long = []
+valuesOf Unended = []
+valuesOf Kind = []
+valuesOf Fields = []
+valuesOf Form = []
+valuesOf Range = []
+valuesOf Own = []
+valuesOf Late = []
+valuesOf Closed = []
+valuesOf Other = []
+valuesOf Clash = []
+valuesOf Undecided = []
+valuesOf Lacking = []
+valuesOf Behind = []
+valuesOf (Settings line reason) = line ∷ reason ∷ []
+valuesOf Room = []

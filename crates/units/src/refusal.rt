@@ -1,0 +1,47 @@
+// Why something was refused, and document 01's number for it.
+ghost use mathlib.Core.Path.{_≡_};
+ghost use Rattle.units.specs.Refusal.{numberOf};
+
+pub enum Refusal {
+    Long,
+    Unended,
+    Kind,
+    Fields,
+    Form,
+    Range,
+    Own,
+    Late,
+    Closed,
+    Other,
+    Clash,
+    Undecided,
+    Lacking,
+    Behind,
+    Settings { line: u32, reason: u32 },
+    Room,
+}
+
+impl Refusal {
+    pub fn number(self) -> u32
+        ensures { λ r. ⌜ r ≡ numberOf self ⌝ }
+    {
+        match self {
+            Refusal::Long => 1,
+            Refusal::Unended => 2,
+            Refusal::Kind => 3,
+            Refusal::Fields => 4,
+            Refusal::Form => 5,
+            Refusal::Range => 6,
+            Refusal::Own => 7,
+            Refusal::Late => 8,
+            Refusal::Closed => 9,
+            Refusal::Other => 10,
+            Refusal::Clash => 11,
+            Refusal::Undecided => 12,
+            Refusal::Lacking => 13,
+            Refusal::Behind => 14,
+            Refusal::Settings { line: _, reason: _ } => 15,
+            Refusal::Room => 16,
+        }
+    }
+}
