@@ -3,6 +3,8 @@ use Prim.Native.Nat.{ℕ}
 use mathlib.Core.List.{List, [], _∷_}
 use Rattle.units.specs.declared.refusal.Refusal.{Refusal}
 use Rattle.units.specs.declared.refusal.Refusal.the-variants.{Long, Unended, Kind, Fields, Form, Range, Own, Late, Closed, Other, Clash, Undecided, Lacking, Behind, Settings, Room}
+use Rattle.units.specs.declared.refusal.Verdict.{Verdict}
+use Rattle.units.specs.declared.refusal.Verdict.the-variants.{Taken, Refused}
 
 abbrev pub numberOf : Refusal → ℕ
 numberOf Long = 1
@@ -40,3 +42,8 @@ valuesOf Lacking = []
 valuesOf Behind = []
 valuesOf (Settings line reason) = line ∷ reason ∷ []
 valuesOf Room = []
+
+-- no refusal has the number 0
+abbrev pub verdictNumber : Verdict → ℕ
+verdictNumber Taken = 0
+verdictNumber (Refused why) = numberOf why

@@ -10,5 +10,6 @@ pub use estimate::Estimate;
 pub use labels::RoundLabel;
 pub use labels::StateLabel;
 pub use refusal::Refusal;
+pub use refusal::Verdict;
 pub use settings::Group;
 pub use settings::Numbers;

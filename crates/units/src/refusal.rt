@@ -1,6 +1,6 @@
 // Why something was refused, and document 01's number for it.
 ghost use mathlib.Core.Path.{_≡_};
-ghost use Rattle.units.specs.Refusal.{numberOf};
+ghost use Rattle.units.specs.Refusal.{numberOf, verdictNumber};
 
 pub enum Refusal {
     Long,
@@ -42,6 +42,23 @@ impl Refusal {
             Refusal::Behind => 14,
             Refusal::Settings { line: _, reason: _ } => 15,
             Refusal::Room => 16,
+        }
+    }
+}
+
+// What an act says of itself: taken, or refused.
+pub enum Verdict {
+    Taken,
+    Refused(Refusal),
+}
+
+impl Verdict {
+    pub fn number(self) -> u32
+        ensures { λ r. ⌜ r ≡ verdictNumber self ⌝ }
+    {
+        match self {
+            Verdict::Taken => 0,
+            Verdict::Refused(why) => why.number(),
         }
     }
 }
