@@ -4,6 +4,12 @@ use mathlib.Core.Bool.{Bool}
 use lib.Dec.{ltb}
 use Rattle.units.specs.declared.labels.RoundLabel.{RoundLabel}
 use Rattle.units.specs.declared.labels.StateLabel.{StateLabel}
+use Rattle.units.specs.Limits.{labelTop}
+use Rattle.units.specs.Within.{within}
+
+-- 1..4,294,967,295
+abbrev pub roundFits : RoundLabel → Bool
+roundFits l = within 1 labelTop (l .0)
 
 -- the state label is below the label
 abbrev pub before : StateLabel → RoundLabel → Bool

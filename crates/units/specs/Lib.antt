@@ -1,5 +1,6 @@
 -- The definitions of `units`.
 pub mod Limits
+pub mod Within
 pub mod Labels
 pub mod Refusal
 pub mod Mask

@@ -1,15 +1,13 @@
 -- What is in range of a station's size and of the numbers of its settings; places that are no run are blank.
 use Prim.Native.Nat.{ℕ}
 use mathlib.Core.Bool.{Bool, true, false, _&&_}
-use lib.Dec.{leb, ltb, eqb}
+use lib.Dec.{ltb, eqb}
 use lib.ListN.{getD}
 use Rattle.units.specs.declared.settings.Group.{Group}
 use Rattle.units.specs.declared.settings.Numbers.{Numbers}
 use Rattle.units.specs.Limits.{controllersTop, runsTop, factorLow, factorTop, weightTop, noiseTop, firstTop}
+use Rattle.units.specs.Within.{within}
 use Rattle.units.specs.Every.{every}
-
-abbrev pub within : ℕ → ℕ → ℕ → Bool
-within low top n = leb low n && leb n top
 
 unfoldable pub groupFits : Group → Bool
 groupFits s = (within 1 controllersTop (s .g)) && (within 1 runsTop (s .m))

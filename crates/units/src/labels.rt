@@ -1,7 +1,9 @@
 // The two kinds of label, each with its own comparisons, and the only functions in which they meet.
 ghost use mathlib.Core.Path.{_≡_};
 ghost use lib.Dec.{eqb, ltb};
-ghost use Rattle.units.specs.Labels.{before, correction, issuedState, justBefore};
+ghost use Rattle.units.specs.Labels.{before, correction, issuedState, justBefore, roundFits};
+use crate::limits::LABEL_TOP;
+use crate::limits::ROUND_LOW;
 
 // The label of a round.
 pub struct RoundLabel(pub u32);
@@ -10,6 +12,12 @@ pub struct RoundLabel(pub u32);
 pub struct StateLabel(pub u32);
 
 impl RoundLabel {
+    pub fn in_range(self) -> bool
+        ensures { λ r. ⌜ r ≡ roundFits self ⌝ }
+    {
+        (ROUND_LOW <= self.0) & (self.0 <= LABEL_TOP)
+    }
+
     pub fn below(self, other: RoundLabel) -> bool
         ensures { λ r. ⌜ r ≡ ltb (self .0) (other .0) ⌝ }
     {

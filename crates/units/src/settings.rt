@@ -1,7 +1,7 @@
 // The size of a station, and the numbers of its settings that stepping and computing need.
-ghost use mathlib.Core.Bool.{_&&_};
 ghost use mathlib.Core.Path.{_≡_};
-ghost use Rattle.units.specs.Settings.{groupFits, numbersFit, placeFits, runsFit, within};
+ghost use Rattle.units.specs.Settings.{groupFits, numbersFit, placeFits, runsFit};
+ghost use Rattle.units.specs.Within.{within};
 use crate::limits::CONTROLLERS;
 use crate::limits::FACTOR_LOW;
 use crate::limits::FACTOR_TOP;
