@@ -8,10 +8,23 @@ use mathlib.Core.Bool.{Bool, true, false, _&&_}
 use mathlib.Core.Logic.{by-cases}
 use Rattle.units.specs.Every.{every}
 
--- what a loop finds that has passed i places and passes one more
-pub every-more : (f : ℕ → Bool) (i : ℕ) (fit r : Bool) → fit ≡ every f i → r ≡ f i → (fit && r) ≡ every f (i + 1)
+-- what a loop finds that began with a, has passed i places and passes one more
+pub and-true : (a : Bool) → a ≡ (a && true)
+and-true true = refl
+and-true false = refl
+
+pub every-none : (f : ℕ → Bool) (a : Bool) → a ≡ (a && every f 0)
 unfolding every
-every-more f i fit r p q = rw (add-one, p, q)
+every-none f a = and-true a
+
+pub every-from : (f : ℕ → Bool) (i : ℕ) (a fit r : Bool) → fit ≡ (a && every f i) → r ≡ f i → (fit && r) ≡ (a && every f (i + 1))
+unfolding every
+every-from f i true fit r p q = rw (add-one, p, q)
+every-from f i false fit r p q = rw p
+
+-- the same, begun with true
+pub every-more : (f : ℕ → Bool) (i : ℕ) (fit r : Bool) → fit ≡ every f i → r ≡ f i → (fit && r) ≡ every f (i + 1)
+every-more f i fit r p q = every-from f i true fit r p q
 
 pub and-left : (a b : Bool) → (a && b) ≡ true → a ≡ true
 and-left true b h = refl

@@ -1,3 +1,6 @@
 -- The laws of `units` that belong to no one function.
 pub mod Every
 pub mod Masks
+pub mod Scan
+pub mod Picked
+pub mod Numbers

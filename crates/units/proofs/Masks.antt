@@ -15,6 +15,9 @@ mask-end-is m h = let e : min m 16 ≡ m = omega arith in ap (λ (n : ℕ). 2 ^ 
 pub mask-end-full : (m : ℕ) → 16 ≤ m → maskEnd m ≡ 65536
 mask-end-full m h = let e : min m 16 ≡ 16 = omega arith in ap (λ (n : ℕ). 2 ^ n) e
 
+pub some-mask : (m : ℕ) → 1 ≤ maskEnd m
+some-mask m = pow-mono {i = 0} {j = min m 16} (omega arith)
+
 -- a mask has no bit at 32 or above
 pub no-bit : (mask i : ℕ) → mask < 2 ^ 32 → 32 ≤ i → false ≡ inMask mask i
 no-bit mask i h k =

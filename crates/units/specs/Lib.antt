@@ -5,4 +5,5 @@ pub mod Labels
 pub mod Refusal
 pub mod Mask
 pub mod Every
+pub mod Pick
 pub mod Settings

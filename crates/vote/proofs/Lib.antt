@@ -1,0 +1,11 @@
+-- The laws of the vote that belong to no one function.
+pub mod Order
+pub mod Lexicographic
+pub mod Counting
+pub mod Exact
+mod Turns
+pub mod Facts
+mod Settling
+pub mod Strength
+pub mod Rule
+pub mod Answer

@@ -1,0 +1,138 @@
+-- The laws of the order of digests: all that the layers above know of `rank`. Assumes nothing.
+use Prim.Native.Nat.{ℕ, zero, suc, _+_, _*_, _-_, _/_, _%_, _^_, _≤_, _<_}
+use native.Mathlib.Omega.{arith}
+use native.Mathlib.Decide.{decLe}
+use native.Mathlib.Nat.{le-refl}
+use mathlib.Core.Logic.{_⊎_, inl, inr, by-cases}
+use mathlib.Core.Path.{_≡_, refl, sym, ap, _∙_}
+use mathlib.Core.Bool.{Bool, true, false, _&&_}
+use lib.Count.{ones, ones-le, ones-ones, ones-step}
+use lib.Dec.{eqb, leb, ltb}
+use lib.Pow.{pow-mono}
+use borrow.Author.Tests.{eqb-true, eq-eqb, leb-true, ltb-true, le-leb, lt-ltb}
+use Rattle.units.specs.declared.labels.RoundLabel.{RoundLabel}
+use Rattle.units.specs.Mask.{maskEnd}
+use Rattle.units.proofs.Every.{and-left, and-right}
+use Rattle.units.proofs.Masks.{mask-end-is}
+use Rattle.vote.specs.declared.digest.Digest.{Digest}
+use Rattle.vote.specs.Digest.{legal, same, rank, unrank, full, least}
+
+-- ---- the same digest
+
+pub digest-path : (d e : Digest) → d .mask ≡ e .mask → d .state .0 ≡ e .state .0 → d ≡ e
+digest-path d e p q = λ i. record { mask = p i; state = record { 0 = q i } }
+
+pub same-true : (d e : Digest) → same d e ≡ true → d ≡ e
+unfolding same
+same-true d e h = digest-path d e (eqb-true _ _ (and-left (eqb (d .mask) (e .mask)) _ h)) (eqb-true _ _ (and-right (eqb (d .mask) (e .mask)) _ h))
+
+pub same-refl : (d : Digest) → same d d ≡ true
+unfolding same
+same-refl d = rw (eq-eqb (d .mask) (d .mask) refl, eq-eqb (d .state .0) (d .state .0) refl)
+
+pub same-false : (d e : Digest) → same d e ≡ false → d ≡ e → ⊥
+same-false d e h p =
+    let q : same e e ≡ false = rw p at h in
+    let r : same e e ≡ true = same-refl e in
+    let z : _≡_ {A = ℕ} 0 1 = cc in
+    omega arith
+
+pub same-dec : (d e : Digest) → (d ≡ e) ⊎ (d ≡ e → ⊥)
+same-dec d e = told (same d e) refl
+  where
+    told : (b : Bool) → same d e ≡ b → (d ≡ e) ⊎ (d ≡ e → ⊥)
+    told true h = inl (same-true d e h)
+    told false h = inr (same-false d e h)
+
+-- ---- a round and its legal digests, as facts
+
+pub record Round (m : ℕ) (label : RoundLabel) : Type 0 where
+  pub runs-low : 1 ≤ m
+  pub runs-high : m ≤ 16
+  pub label-low : 1 ≤ label .0
+  pub label-high : label .0 < 2 ^ 32
+
+pub record Legal (m : ℕ) (label : RoundLabel) (d : Digest) : Type 0 where
+  pub some-run : 1 ≤ d .mask
+  pub own-runs : d .mask < 2 ^ m
+  pub older : d .state .0 < label .0
+
+module _ (m : ℕ) (label : RoundLabel) (w : Round m label) where
+  pub legal-facts : (d : Digest) → legal m label d ≡ true → Legal m label d
+  unfolding legal
+  legal-facts d h =
+      let abc = and-left (leb m 16 && leb 1 (d .mask) && ltb (d .mask) (maskEnd m)) (ltb (d .state .0) (label .0)) h in
+      let ab = and-left (leb m 16 && leb 1 (d .mask)) (ltb (d .mask) (maskEnd m)) abc in
+      record {
+        some-run = leb-true 1 (d .mask) (and-right (leb m 16) (leb 1 (d .mask)) ab);
+        own-runs = omega (arith, ltb-true (d .mask) (maskEnd m) (and-right (leb m 16 && leb 1 (d .mask)) (ltb (d .mask) (maskEnd m)) abc), mask-end-is m (w .runs-high));
+        older = ltb-true (d .state .0) (label .0) (and-right (leb m 16 && leb 1 (d .mask) && ltb (d .mask) (maskEnd m)) (ltb (d .state .0) (label .0)) h);
+      }
+
+  facts-legal : (d : Digest) → Legal m label d → legal m label d ≡ true
+  unfolding legal
+  facts-legal d l =
+      let own : d .mask < maskEnd m = omega (arith, l .own-runs, mask-end-is m (w .runs-high)) in
+      rw (le-leb m 16 (w .runs-high), le-leb 1 (d .mask) (l .some-run), lt-ltb (d .mask) (maskEnd m) own, lt-ltb (d .state .0) (label .0) (l .older))
+
+  pub mask-small : (d : Digest) → Legal m label d → d .mask < 2 ^ 16
+  mask-small d l = omega (arith, l .own-runs, pow-mono {i = m} {j = 16} (w .runs-high))
+
+  -- ---- THE LAWS OF THE ORDER
+
+  -- a rank tells its digest
+  pub unrank-rank : (d : Digest) → legal m label d ≡ true → unrank (rank d) ≡ d
+  unfolding rank unrank
+  unrank-rank d h =
+      let l = legal-facts d h in
+      let a = mask-small d l in
+      digest-path (unrank (rank d)) d (omega (arith, l .older, w .label-high)) (omega (arith, l .older, w .label-high))
+
+  -- two legal digests of one rank are the same
+  pub rank-injective : (d e : Digest) → legal m label d ≡ true → legal m label e ≡ true → rank d ≡ rank e → d ≡ e
+  rank-injective d e p q h = sym (unrank-rank d p) ∙ ap unrank h ∙ unrank-rank e q
+
+  -- a rank is below what one vote adds
+  pub rank-below : (d : Digest) → legal m label d ≡ true → rank d < 2 ^ 56
+  unfolding rank
+  rank-below d h =
+      let l = legal-facts d h in
+      omega (arith, l .older, w .label-high, mask-small d l, ones-le 16 (d .mask) (mask-small d l))
+
+  pub full-legal : legal m label (full m label) ≡ true
+  unfolding full
+  full-legal =
+      let two : 2 ^ 1 ≤ 2 ^ m = pow-mono {i = 1} {j = m} (w .runs-low) in
+      let e = mask-end-is m (w .runs-high) in
+      facts-legal (full m label) (record { some-run = omega arith; own-runs = omega arith; older = omega (arith, w .label-low) })
+
+  pub full-largest : (d : Digest) → legal m label d ≡ true → rank d ≤ rank (full m label)
+  unfolding rank full
+  full-largest d h =
+      let l = legal-facts d h in
+      let e = mask-end-is m (w .runs-high) in
+      let o : ones (maskEnd m - 1) ≡ m = ap (λ (n : ℕ). ones (n - 1)) e ∙ ones-ones m in
+      omega (arith, ones-le m (d .mask) (l .own-runs), l .own-runs, l .older)
+
+  pub least-legal : legal m label least ≡ true
+  unfolding least
+  least-legal =
+      let two : 2 ^ 1 ≤ 2 ^ m = pow-mono {i = 1} {j = m} (w .runs-low) in
+      facts-legal least (record { some-run = omega arith; own-runs = omega arith; older = omega (arith, w .label-low) })
+
+ones-pos′ : (n x : ℕ) → x ≤ n → 1 ≤ x → 1 ≤ ones x
+ones-pos′ zero x g h = absurd (omega arith)
+ones-pos′ (suc n) x g h =
+    by-cases (decLe 1 (x % 2)) (λ k. omega (arith, ones-step x))
+    (λ k. omega (arith, ones-step x, ones-pos′ n (x / 2) (omega arith) (omega arith)))
+
+module _ (m : ℕ) (label : RoundLabel) (w : Round m label) where
+  pub least-smallest : (d : Digest) → legal m label d ≡ true → rank least ≤ rank d
+  unfolding rank least ones
+  least-smallest d h =
+      let l = legal-facts m label w d h in
+      omega (arith, l .some-run, ones-pos′ (d .mask) (d .mask) (le-refl (d .mask)) (l .some-run))
+
+pub least-some : 1 ≤ rank least
+unfolding rank least ones
+least-some = omega arith

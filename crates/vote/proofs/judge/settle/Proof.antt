@@ -1,0 +1,46 @@
+-- `settle` meets its contract. Assumes nothing.
+use Rattle.vote.proofs.Settling.{settled-none, settled-yes, settled-no}
+use borrow.Author.Needs.{needs}
+use Rattle.vote.proofs.judge.settle.Statement.{statement}
+use Rattle.vote.proofs.judge.settle.Tie as tie
+
+strengths-of-requires : tie.Need-strengths-of-requires
+strengths-of-requires c κs = search needs
+
+largest-of-requires : tie.Need-largest-of-requires
+largest-of-requires c κs = search needs
+
+returns : tie.Need-returns
+returns c = settled-none (c .before .before .before .args .ranks) _ _ (c .before .before .strengths-of .ensures) (c .before .largest-of .ensures) (c .before .before .before .args .group) (c .before .before .before .args .label) (c .if1 .taken)
+
+strongest-rival-requires : tie.Need-strongest-rival-requires
+strongest-rival-requires c κs = search needs
+
+missing-of-requires : tie.Need-missing-of-requires
+missing-of-requires c κs = search needs
+
+held-off-requires : tie.Need-held-off-requires
+held-off-requires c κs = search needs
+
+ranked-requires : tie.Need-ranked-requires
+ranked-requires c κs = search needs
+
+returns-2 : tie.Need-returns-2
+returns-2 c = let a = c .before .before .before .before .before .before .before .before .args in settled-yes (a .ranks) _ _ (c .before .before .before .before .before .before .before .strengths-of .ensures) (c .before .before .before .before .before .before .largest-of .ensures) (a .group) (a .label) (c .before .before .before .before .before .if1 .left) _ _ (c .before .before .before .before .strongest-rival .ensures) (c .before .before .before .missing-of .ensures .0) _ (c .before .before .held-off .ensures) (c .before .if2 .taken) _ (c .ranked .ensures)
+
+returns-3 : tie.Need-returns-3
+returns-3 c = let a = c .before .before .before .before .before .before .before .args in settled-no (a .ranks) _ _ (c .before .before .before .before .before .before .strengths-of .ensures) (c .before .before .before .before .before .largest-of .ensures) (a .group) (a .label) (c .before .before .before .before .if1 .left) _ _ (c .before .before .before .strongest-rival .ensures) (c .before .before .missing-of .ensures .0) _ (c .before .held-off .ensures) (c .if2 .left)
+
+pub settle-spec : {M : Type 1} → statement M
+settle-spec =
+    tie.close
+    (tie.spec
+    strengths-of-requires
+    largest-of-requires
+    returns
+    strongest-rival-requires
+    missing-of-requires
+    held-off-requires
+    ranked-requires
+    returns-2
+    returns-3)

@@ -1,0 +1,48 @@
+-- `winner` meets its contract. Assumes nothing.
+use mathlib.Core.Path.{refl, sym, ap, _∙_}
+use Rattle.units.proofs.Picked.{by-yes, by-no}
+use Rattle.vote.proofs.Settling.{nobody-won, somebody-won}
+use Rattle.vote.specs.Decision.{ranksOf, strengths, winning}
+use borrow.Author.Needs.{needs}
+use Rattle.vote.proofs.judge.winner.Statement.{statement}
+use Rattle.vote.proofs.judge.winner.Tie as tie
+
+in-range-requires : tie.Need-in-range-requires
+in-range-requires c κs = search needs
+
+ranks-of-requires : tie.Need-ranks-of-requires
+ranks-of-requires c κs = search needs
+
+strengths-of-requires : tie.Need-strengths-of-requires
+strengths-of-requires c κs = search needs
+
+largest-of-requires : tie.Need-largest-of-requires
+largest-of-requires c κs = search needs
+
+ranked-requires : tie.Need-ranked-requires
+ranked-requires c κs = search needs
+
+returns : tie.Need-returns
+unfolding winning
+returns c = let v = c .before .before .before .before .before .before .before .args .v in by-yes _ (sym (c .before .before .before .before .before .before .in-range .ensures) ∙ c .before .before .before .before .before .if1 .taken) (nobody-won (ranksOf (v .seats)) _ _ (c .before .before .strengths-of .ensures ∙ ap strengths (c .before .before .before .ranks-of .ensures)) (c .before .largest-of .ensures) (c .if2 .taken))
+
+returns-2 : tie.Need-returns-2
+unfolding winning
+returns-2 c = let v = c .before .before .before .before .before .before .before .before .args .v in by-yes _ (sym (c .before .before .before .before .before .before .before .in-range .ensures) ∙ c .before .before .before .before .before .before .if1 .taken) (somebody-won (ranksOf (v .seats)) _ _ (c .before .before .before .strengths-of .ensures ∙ ap strengths (c .before .before .before .before .ranks-of .ensures)) (c .before .before .largest-of .ensures) (c .before .if2 .left) _ (c .ranked .ensures))
+
+returns-3 : tie.Need-returns-3
+unfolding winning
+returns-3 c = by-no _ (sym (c .before .in-range .ensures) ∙ c .if1 .left) refl
+
+pub winner-spec : {M : Type 1} → statement M
+winner-spec =
+    tie.close
+    (tie.spec
+    in-range-requires
+    ranks-of-requires
+    strengths-of-requires
+    largest-of-requires
+    ranked-requires
+    returns
+    returns-2
+    returns-3)

@@ -1,0 +1,4 @@
+-- The definitions of `vote`.
+pub mod Digest
+pub mod Vote
+pub mod Decision

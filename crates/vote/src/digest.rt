@@ -1,0 +1,79 @@
+// Digests of one label: which are legal, when two are the same, and their order.
+ghost use Prim.Native.Nat.{_≤_};
+ghost use lib.Count.{ones};
+ghost use mathlib.Core.Path.{_≡_};
+ghost use Rattle.vote.specs.Digest.{full, least, legal, rank, same, unrank};
+use units::RoundLabel;
+use units::StateLabel;
+use units::limits::RUNS;
+use units::mask::mask_end;
+
+// What a controller votes: the runs whose readings it holds, and the state that it holds.
+pub struct Digest {
+    pub mask: u32,
+    pub state: StateLabel,
+}
+
+// The number of measurements in a mask.
+fn size_of(mask: u32) -> u64
+    ensures { λ r. ⌜ (r ≡ ones mask) × (r ≤ 32) ⌝ }
+{
+    u32::count_ones(mask) as u64
+}
+
+impl Digest {
+    // Whether a controller may vote it in the round (m, label).
+    pub fn legal(self, m: usize, label: RoundLabel) -> bool
+        ensures { λ r. ⌜ r ≡ legal m label self ⌝ }
+    {
+        let state = self.state;
+        (m <= RUNS) & (1 <= self.mask) & (self.mask < mask_end(m)) & state.before(label)
+    }
+
+    pub fn same(self, other: Digest) -> bool
+        ensures { λ r. ⌜ r ≡ same self other ⌝ }
+    {
+        let state = self.state;
+        (self.mask == other.mask) & state.same(other.state)
+    }
+
+    // Its place in the order of digests, as one number.
+    pub fn rank(self) -> u64
+        ensures { λ r. ⌜ r ≡ rank self ⌝ }
+    {
+        let held = size_of(self.mask);
+        let state = self.state.0 as u64;
+        let mask = self.mask as u64;
+        held * 281474976710656 + state * 65536 + mask
+    }
+
+    // The legal digest of a rank.
+    pub fn ranked(n: u64) -> Digest
+        ensures { λ r. ⌜ r ≡ unrank n ⌝ }
+    {
+        let state = StateLabel((n / 65536 % 4294967296) as u32);
+        Digest {
+            mask: (n % 65536) as u32,
+            state,
+        }
+    }
+
+    // All m runs and the state just before the label.
+    pub fn full(m: usize, label: RoundLabel) -> Digest
+        ensures { λ r. ⌜ r ≡ full m label ⌝ }
+    {
+        let end = mask_end(m);
+        Digest {
+            mask: end - 1,
+            state: label.previous(),
+        }
+    }
+
+    // Run 0 alone and the state of a start.
+    pub fn least() -> Digest
+        ensures { λ r. ⌜ r ≡ least ⌝ }
+    {
+        let state = StateLabel(0);
+        Digest { mask: 1, state }
+    }
+}
