@@ -1,0 +1,68 @@
+-- Document 01's cases hold: one test over the table, which the checker computes, and one law from the test to the statement. Assumes nothing.
+use Prim.Native.Nat.{ℕ}
+use native.Mathlib.Omega.{arith}
+use mathlib.Core.Path.{_≡_, refl, ap, subst}
+use mathlib.Core.Bool.{Bool, true, false, _&&_}
+use mathlib.Core.List.{List, [], _∷_}
+use lib.Count.{ones}
+use Rattle.units.specs.declared.refusal.Refusal.{Refusal}
+use Rattle.units.specs.Every.{every}
+use Rattle.units.specs.Pick.{pick}
+use Rattle.units.specs.Settings.{groupFits}
+use Rattle.units.proofs.Every.{and-left, and-right}
+use Rattle.vote.specs.declared.judge.Decision.{Decision}
+use Rattle.vote.specs.declared.judge.Decision.the-variants.{Undecided, Decided, Refused}
+use Rattle.vote.specs.Digest.{legal, same, rank, unrank, full, least}
+use Rattle.vote.specs.Vote.{Answers, seatFits, votesFit}
+use Rattle.vote.specs.Decision.{tallyOf, strengthOf, largest, otherThan, outsider, missingOf, heldOff, rivalOf, settledAt, settled, decision}
+use Rattle.vote.proofs.Order.{same-true}
+use Rattle.vote.proofs.Answer.{decision-exact}
+use Rattle.cases.specs.Table.{Row, judged, votesOf, Holds, Each, table}
+
+-- ---- the test
+
+sameDecision : Decision → Decision → Bool
+sameDecision (Refused a) (Refused b) = false
+sameDecision (Refused a) Undecided = false
+sameDecision (Refused a) (Decided e) = false
+sameDecision Undecided (Refused b) = false
+sameDecision Undecided Undecided = true
+sameDecision Undecided (Decided e) = false
+sameDecision (Decided d) (Refused b) = false
+sameDecision (Decided d) Undecided = false
+sameDecision (Decided d) (Decided e) = same d e
+
+test : Row → Bool
+test (judged c) = sameDecision (decision (votesOf c)) (c .verdict)
+
+testEach : List Row → Bool
+testEach [] = true
+testEach (r ∷ rs) = test r && testEach rs
+
+-- ---- the law
+
+same-decision : (a b : Decision) → sameDecision a b ≡ true → a ≡ b
+unfolding sameDecision
+same-decision (Refused a) (Refused b) h = let z : _≡_ {A = ℕ} 0 1 = cc in absurd (omega arith)
+same-decision (Refused a) Undecided h = let z : _≡_ {A = ℕ} 0 1 = cc in absurd (omega arith)
+same-decision (Refused a) (Decided e) h = let z : _≡_ {A = ℕ} 0 1 = cc in absurd (omega arith)
+same-decision Undecided (Refused b) h = let z : _≡_ {A = ℕ} 0 1 = cc in absurd (omega arith)
+same-decision Undecided Undecided h = refl
+same-decision Undecided (Decided e) h = let z : _≡_ {A = ℕ} 0 1 = cc in absurd (omega arith)
+same-decision (Decided d) (Refused b) h = let z : _≡_ {A = ℕ} 0 1 = cc in absurd (omega arith)
+same-decision (Decided d) Undecided h = let z : _≡_ {A = ℕ} 0 1 = cc in absurd (omega arith)
+same-decision (Decided d) (Decided e) h = ap Decided (same-true d e h)
+
+holds : (r : Row) → test r ≡ true → Holds r
+unfolding test
+holds (judged c) h = subst (Answers (votesOf c)) (same-decision (decision (votesOf c)) (c .verdict) h) (decision-exact (votesOf c))
+
+each : (rs : List Row) → testEach rs ≡ true → Each rs
+unfolding testEach
+each [] h = tt
+each (r ∷ rs) h = (holds r (and-left (test r) (testEach rs) h), each rs (and-right (test r) (testEach rs) h))
+
+-- v1 to v12
+pub cases : Each table
+unfolding table testEach test sameDecision decision settled settledAt rivalOf heldOff missingOf outsider otherThan largest strengthOf tallyOf votesFit seatFits groupFits every legal same rank unrank full least ones pick
+cases = each table refl

@@ -1,0 +1,2 @@
+-- The table of document 01's cases.
+pub mod Table
