@@ -1,7 +1,7 @@
 -- "A round label and a state label are counted apart": the few places where the two meet.
 use Prim.Native.Nat.{ℕ, _-_}
 use mathlib.Core.Bool.{Bool}
-use lib.Dec.{ltb}
+use lib.Dec.{leb, ltb}
 use Rattle.units.specs.declared.labels.RoundLabel.{RoundLabel}
 use Rattle.units.specs.declared.labels.StateLabel.{StateLabel}
 use Rattle.units.specs.Limits.{labelTop}
@@ -10,6 +10,14 @@ use Rattle.units.specs.Within.{within}
 -- 1..4,294,967,295
 abbrev pub roundFits : RoundLabel → Bool
 roundFits l = within 1 labelTop (l .0)
+
+-- 0..4,294,967,295
+abbrev pub stateLabelFits : StateLabel → Bool
+stateLabelFits s = leb (s .0) labelTop
+
+-- a floor may be 0
+abbrev pub floorFits : RoundLabel → Bool
+floorFits l = leb (l .0) labelTop
 
 -- the state label is below the label
 abbrev pub before : StateLabel → RoundLabel → Bool

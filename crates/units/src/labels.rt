@@ -1,7 +1,7 @@
 // The two kinds of label, each with its own comparisons, and the only functions in which they meet.
 ghost use mathlib.Core.Path.{_≡_};
 ghost use lib.Dec.{eqb, ltb};
-ghost use Rattle.units.specs.Labels.{before, correction, issuedState, justBefore, roundFits};
+ghost use Rattle.units.specs.Labels.{before, correction, floorFits, issuedState, justBefore, roundFits, stateLabelFits};
 use crate::limits::LABEL_TOP;
 use crate::limits::ROUND_LOW;
 
@@ -16,6 +16,13 @@ impl RoundLabel {
         ensures { λ r. ⌜ r ≡ roundFits self ⌝ }
     {
         (ROUND_LOW <= self.0) & (self.0 <= LABEL_TOP)
+    }
+
+    // Whether it can be a floor, which may be 0.
+    pub fn floor_in_range(self) -> bool
+        ensures { λ r. ⌜ r ≡ floorFits self ⌝ }
+    {
+        self.0 <= LABEL_TOP
     }
 
     pub fn below(self, other: RoundLabel) -> bool
@@ -61,6 +68,12 @@ impl RoundLabel {
 }
 
 impl StateLabel {
+    pub fn in_range(self) -> bool
+        ensures { λ r. ⌜ r ≡ stateLabelFits self ⌝ }
+    {
+        self.0 <= LABEL_TOP
+    }
+
     pub fn below(self, other: StateLabel) -> bool
         ensures { λ r. ⌜ r ≡ ltb (self .0) (other .0) ⌝ }
     {

@@ -1,6 +1,6 @@
 // Masks of runs: bit i for run i.
 ghost use mathlib.Core.Path.{_≡_};
-ghost use Rattle.units.specs.Mask.{inMask, maskEnd};
+ghost use Rattle.units.specs.Mask.{inMask, maskEnd, maskFits};
 use crate::limits::RUNS;
 
 // One more than the largest mask of m runs.
@@ -21,4 +21,11 @@ pub fn has(mask: u32, i: usize) -> bool
         return false;
     }
     (mask >> i) % 2 == 1
+}
+
+// Whether the mask has a bit, and none at m or above.
+pub fn mask_in_range(m: usize, mask: u32) -> bool
+    ensures { λ r. ⌜ r ≡ maskFits m mask ⌝ }
+{
+    (1 <= mask) & (mask < mask_end(m))
 }

@@ -11,7 +11,7 @@ use lib.Dec.{eqb, leb, ltb}
 use lib.Pow.{pow-mono}
 use borrow.Author.Tests.{eqb-true, eq-eqb, leb-true, ltb-true, le-leb, lt-ltb}
 use Rattle.units.specs.declared.labels.RoundLabel.{RoundLabel}
-use Rattle.units.specs.Mask.{maskEnd}
+use Rattle.units.specs.Mask.{maskEnd, maskFits}
 use Rattle.units.proofs.Every.{and-left, and-right}
 use Rattle.units.proofs.Masks.{mask-end-is}
 use Rattle.vote.specs.declared.digest.Digest.{Digest}
@@ -61,12 +61,12 @@ module _ (m : ℕ) (label : RoundLabel) (w : Round m label) where
   pub legal-facts : (d : Digest) → legal m label d ≡ true → Legal m label d
   unfolding legal
   legal-facts d h =
-      let abc = and-left (leb m 16 && leb 1 (d .mask) && ltb (d .mask) (maskEnd m)) (ltb (d .state .0) (label .0)) h in
-      let ab = and-left (leb m 16 && leb 1 (d .mask)) (ltb (d .mask) (maskEnd m)) abc in
+      let ab = and-left (leb m 16 && maskFits m (d .mask)) (ltb (d .state .0) (label .0)) h in
+      let mask = and-right (leb m 16) (maskFits m (d .mask)) ab in
       record {
-        some-run = leb-true 1 (d .mask) (and-right (leb m 16) (leb 1 (d .mask)) ab);
-        own-runs = omega (arith, ltb-true (d .mask) (maskEnd m) (and-right (leb m 16 && leb 1 (d .mask)) (ltb (d .mask) (maskEnd m)) abc), mask-end-is m (w .runs-high));
-        older = ltb-true (d .state .0) (label .0) (and-right (leb m 16 && leb 1 (d .mask) && ltb (d .mask) (maskEnd m)) (ltb (d .state .0) (label .0)) h);
+        some-run = leb-true 1 (d .mask) (and-left (leb 1 (d .mask)) (ltb (d .mask) (maskEnd m)) mask);
+        own-runs = omega (arith, ltb-true (d .mask) (maskEnd m) (and-right (leb 1 (d .mask)) (ltb (d .mask) (maskEnd m)) mask), mask-end-is m (w .runs-high));
+        older = ltb-true (d .state .0) (label .0) (and-right (leb m 16 && maskFits m (d .mask)) (ltb (d .state .0) (label .0)) h);
       }
 
   facts-legal : (d : Digest) → Legal m label d → legal m label d ≡ true

@@ -6,12 +6,12 @@ use lib.Dec.{leb, ltb, eqb}
 use Rattle.units.specs.declared.labels.RoundLabel.{RoundLabel}
 use Rattle.units.specs.Labels.{before, justBefore}
 use Rattle.units.specs.Limits.{runsTop}
-use Rattle.units.specs.Mask.{maskEnd}
+use Rattle.units.specs.Mask.{maskEnd, maskFits}
 use Rattle.vote.specs.declared.digest.Digest.{Digest}
 
 -- "A mask .. isn't 0000 and has no bit at m or above", "The state label is below the label"
 unfoldable pub legal : ℕ → RoundLabel → Digest → Bool
-legal m label d = leb m runsTop && leb 1 (d .mask) && ltb (d .mask) (maskEnd m) && before (d .state) label
+legal m label d = leb m runsTop && maskFits m (d .mask) && before (d .state) label
 
 unfoldable pub same : Digest → Digest → Bool
 same d e = eqb (d .mask) (e .mask) && eqb (d .state .0) (e .state .0)

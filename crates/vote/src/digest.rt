@@ -7,6 +7,7 @@ use units::RoundLabel;
 use units::StateLabel;
 use units::limits::RUNS;
 use units::mask::mask_end;
+use units::mask::mask_in_range;
 
 // What a controller votes: the runs whose readings it holds, and the state that it holds.
 pub struct Digest {
@@ -27,7 +28,7 @@ impl Digest {
         ensures { λ r. ⌜ r ≡ legal m label self ⌝ }
     {
         let state = self.state;
-        (m <= RUNS) & (1 <= self.mask) & (self.mask < mask_end(m)) & state.before(label)
+        (m <= RUNS) & mask_in_range(m, self.mask) & state.before(label)
     }
 
     pub fn same(self, other: Digest) -> bool

@@ -4,8 +4,8 @@ use borrow.Author.Needs.{needs}
 use Rattle.vote.proofs.digest.Digest.legal.Statement.{statement}
 use Rattle.vote.proofs.digest.Digest.legal.Tie as tie
 
-mask-end-requires : tie.Need-mask-end-requires
-mask-end-requires c κs = search needs
+mask-in-range-requires : tie.Need-mask-in-range-requires
+mask-in-range-requires c κs = search needs
 
 before-requires : tie.Need-before-requires
 before-requires c κs = search needs
@@ -15,4 +15,4 @@ unfolding legal
 returns c = cc
 
 pub legal-spec : {M : Type 1} → statement M
-legal-spec = tie.close (tie.spec mask-end-requires before-requires returns)
+legal-spec = tie.close (tie.spec mask-in-range-requires before-requires returns)

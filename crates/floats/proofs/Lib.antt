@@ -1,0 +1,4 @@
+-- The laws of `floats` that belong to no one function.
+pub mod Encoding
+pub mod Limits
+pub mod Places

@@ -1,0 +1,3 @@
+-- The definitions of `floats`.
+pub mod Bits
+pub mod Ranges

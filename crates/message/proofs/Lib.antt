@@ -1,0 +1,2 @@
+-- The laws of `message` that belong to no one function.
+mod Lengths

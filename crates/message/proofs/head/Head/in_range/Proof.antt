@@ -1,0 +1,179 @@
+-- `Head::in_range` meets its contract: in each kind, what its own function finds. Assumes nothing.
+use lib.Dec.{ltb}
+use mathlib.Core.Path.{refl, ap}
+use mathlib.Core.Bool.{_&&_}
+use Rattle.message.specs.Head.{headFits}
+use Rattle.units.proofs.Picked.{along}
+use borrow.Author.Needs.{needs}
+use Rattle.message.proofs.head.Head.in_range.Statement.{statement}
+use Rattle.message.proofs.head.Head.in_range.Tie as tie
+
+enum-known-self : tie.Need-enum-known-self
+enum-known-self c = search needs
+
+reading-fits-requires : tie.Need-reading-fits-requires
+reading-fits-requires c κs = search needs
+
+enum-known-self-2 : tie.Need-enum-known-self-2
+enum-known-self-2 c = search needs
+
+mask-fits-requires : tie.Need-mask-fits-requires
+mask-fits-requires c κs = search needs
+
+enum-known-self-3 : tie.Need-enum-known-self-3
+enum-known-self-3 c = search needs
+
+mask-fits-requires-2 : tie.Need-mask-fits-requires-2
+mask-fits-requires-2 c κs = search needs
+
+enum-known-self-4 : tie.Need-enum-known-self-4
+enum-known-self-4 c = search needs
+
+state-fits-requires : tie.Need-state-fits-requires
+state-fits-requires c κs = search needs
+
+enum-known-self-5 : tie.Need-enum-known-self-5
+enum-known-self-5 c = search needs
+
+state-fits-requires-2 : tie.Need-state-fits-requires-2
+state-fits-requires-2 c κs = search needs
+
+enum-known-self-6 : tie.Need-enum-known-self-6
+enum-known-self-6 c = search needs
+
+digest-fits-requires : tie.Need-digest-fits-requires
+digest-fits-requires c κs = search needs
+
+enum-known-self-7 : tie.Need-enum-known-self-7
+enum-known-self-7 c = search needs
+
+digest-fits-requires-2 : tie.Need-digest-fits-requires-2
+digest-fits-requires-2 c κs = search needs
+
+enum-known-self-8 : tie.Need-enum-known-self-8
+enum-known-self-8 c = search needs
+
+in-range-requires : tie.Need-in-range-requires
+in-range-requires c κs = search needs
+
+enum-known-self-9 : tie.Need-enum-known-self-9
+enum-known-self-9 c = search needs
+
+in-range-requires-2 : tie.Need-in-range-requires-2
+in-range-requires-2 c κs = search needs
+
+enum-known-self-10 : tie.Need-enum-known-self-10
+enum-known-self-10 c = search needs
+
+in-range-requires-3 : tie.Need-in-range-requires-3
+in-range-requires-3 c κs = search needs
+
+enum-known-self-11 : tie.Need-enum-known-self-11
+enum-known-self-11 c = search needs
+
+in-range-requires-4 : tie.Need-in-range-requires-4
+in-range-requires-4 c κs = search needs
+
+enum-known-self-12 : tie.Need-enum-known-self-12
+enum-known-self-12 c = search needs
+
+floor-in-range-requires : tie.Need-floor-in-range-requires
+floor-in-range-requires c κs = search needs
+
+enum-known-self-13 : tie.Need-enum-known-self-13
+enum-known-self-13 c = search needs
+
+returns : tie.Need-returns
+unfolding headFits
+returns c = along (headFits _) (c .before .before .self .given .1) (c .reading-fits .ensures)
+
+returns-2 : tie.Need-returns-2
+unfolding headFits
+returns-2 c = along (headFits _) (c .before .before .self2 .given .1) (c .mask-fits .ensures)
+
+returns-3 : tie.Need-returns-3
+unfolding headFits
+returns-3 c = along (headFits _) (c .before .before .self3 .given .1) (c .mask-fits2 .ensures)
+
+returns-4 : tie.Need-returns-4
+unfolding headFits
+returns-4 c = along (headFits _) (c .before .before .self4 .given .1) (c .state-fits .ensures)
+
+returns-5 : tie.Need-returns-5
+unfolding headFits
+returns-5 c = along (headFits _) (c .before .before .self5 .given .1) (c .state-fits2 .ensures)
+
+returns-6 : tie.Need-returns-6
+unfolding headFits
+returns-6 c = along (headFits _) (c .before .before .self6 .given .1) (c .digest-fits .ensures)
+
+returns-7 : tie.Need-returns-7
+unfolding headFits
+returns-7 c = along (headFits _) (c .before .before .self7 .given .1) (c .digest-fits2 .ensures)
+
+returns-8 : tie.Need-returns-8
+unfolding headFits
+returns-8 c = along (headFits _) (c .before .before .self8 .given .1) (c .in-range .ensures)
+
+returns-9 : tie.Need-returns-9
+unfolding headFits
+returns-9 c = along (headFits _) (c .before .before .self9 .given .1) (c .in-range2 .ensures)
+
+returns-10 : tie.Need-returns-10
+unfolding headFits
+returns-10 c = along (headFits _) (c .before .before .self10 .given .1) (c .in-range3 .ensures)
+
+returns-11 : tie.Need-returns-11
+unfolding headFits
+returns-11 c = along (headFits _) (c .before .before .self11 .given .1) (c .in-range4 .ensures)
+
+returns-12 : tie.Need-returns-12
+unfolding headFits
+returns-12 c = along (headFits _) (c .before .before .before .self12 .given .1) (ap (_&&_ (ltb (c .before .before .before .self12 .given .0 .0) (c .before .before .before .before .before .args .group .g))) (c .floor-in-range .ensures))
+
+returns-13 : tie.Need-returns-13
+unfolding headFits
+returns-13 c = along (headFits _) (c .before .self13 .given .1) refl
+
+pub in-range-spec : {M : Type 1} → statement M
+in-range-spec =
+    tie.close
+    (tie.spec
+    enum-known-self
+    reading-fits-requires
+    enum-known-self-2
+    mask-fits-requires
+    enum-known-self-3
+    mask-fits-requires-2
+    enum-known-self-4
+    state-fits-requires
+    enum-known-self-5
+    state-fits-requires-2
+    enum-known-self-6
+    digest-fits-requires
+    enum-known-self-7
+    digest-fits-requires-2
+    enum-known-self-8
+    in-range-requires
+    enum-known-self-9
+    in-range-requires-2
+    enum-known-self-10
+    in-range-requires-3
+    enum-known-self-11
+    in-range-requires-4
+    enum-known-self-12
+    floor-in-range-requires
+    enum-known-self-13
+    returns
+    returns-2
+    returns-3
+    returns-4
+    returns-5
+    returns-6
+    returns-7
+    returns-8
+    returns-9
+    returns-10
+    returns-11
+    returns-12
+    returns-13)

@@ -1,0 +1,5 @@
+-- The definitions of `message`.
+pub mod Head
+pub mod Readings
+pub mod Message
+pub mod Settings
