@@ -3,7 +3,7 @@ use mathlib.Core.Path.{_≡_, refl, sym, _∙_, ap, subst}
 use mathlib.Core.Logic.{_⊎_, inl, inr}
 use mathlib.Core.Bool.{Bool, true, false, not, _&&_, true≢false}
 use Prim.Native.Nat.{ℕ, _+_, _-_, _*_, _/_, _^_, _≤_, _<_, zero-le}
-use native.Mathlib.Nat.{le-trans, le-of-eq, le-of-lt, le-antisymm, lt-of-le-of-lt, eq-or-lt-of-le, mul-one, mul-right-comm, mul-le-mul-right, le-div-iff-mul-le, mul-div-cancel, zero-add, add-le-add, le-refl}
+use native.Mathlib.Nat.{le-trans, le-of-eq, le-of-lt, le-antisymm, lt-of-le-of-lt, div-one, eq-or-lt-of-le, mul-right-comm, mul-le-mul-right, le-div-iff-mul-le, mul-div-cancel, zero-add, add-le-add, le-refl}
 use native.Mathlib.Omega.{arith}
 use lib.IntN.{ℤ, pos}
 use lib.Dec.{T, leb, leb→le, le→leb, nleb→lt, lit≤}
@@ -109,7 +109,7 @@ neg-high m e = big ((size (mag m e) - 53) * 4503599627370496) (mag m e / 2 ^ (si
 
 module _ (n L : ℕ) (N : n ≤ 2 ^ 53) (at : toBits binary64 (whole n) ≡ L) (small : L < 0x7ff0_0000_0000_0000) where
   limit-enc : enc (n * 2 ^ 1074) ≡ L
-  limit-enc = sym (val-bits (whole n) n 1 (omega arith) (whole-value n N) ∙ ap enc (native.Mathlib.Nat.div-one (n * 2 ^ 1074))) ∙ at
+  limit-enc = sym (val-bits (whole n) n 1 (omega arith) (whole-value n N) ∙ ap enc (div-one (n * 2 ^ 1074))) ∙ at
 
   finite-bits : (m : ℕ) (e : ℤ) → T (fits binary64 (fin false m e)) → leb (toBits binary64 (fin false m e)) L ≡ leb (m * up e) (n * down e)
   finite-bits m e f = bool-iff _ _ (λ t. tested t (leb (m * up e) (n * down e)) (nleb→lt (m * up e) (n * down e))) (λ t. le→leb _ L (le-trans (le-of-eq (pos-bits m e)) (le-trans (enc-mono (mag m e) (n * 2 ^ 1074) (mag-le n m e (leb→le (m * up e) (n * down e) t))) (le-of-eq limit-enc))))

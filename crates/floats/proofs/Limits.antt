@@ -147,6 +147,10 @@ pub nought-is : nought ≡ whole 0
 unfolding ofBits ofInt
 nought-is = refl
 
+pub nought-bits : bitsOf nought ≡ 0
+unfolding bitsOf toBits ofBits
+nought-bits = refl
+
 pub nought-range : (n : ℕ) → upTo n nought ≡ true
 nought-range n = ap (upTo n) nought-is ∙ whole-range 0 n zero-le zero-le
 

@@ -1,19 +1,19 @@
 -- The sixteen places of a state and of the targets: what it means that they are in range, and that two states are the same. Assumes nothing.
-use mathlib.Core.Path.{_≡_, refl, sym, _∙_, ap, ap₂}
-use mathlib.Core.Bool.{Bool, true, false, _&&_}
+use mathlib.Core.Path.{_≡_, sym, _∙_, ap, ap₂}
+use mathlib.Core.Bool.{Bool, true, _&&_}
 use mathlib.Core.List.{List}
 use mathlib.Core.Logic.{by-cases}
 use Prim.Native.Nat.{ℕ, _≤_, _<_}
 use native.Mathlib.Omega.{arith}
 use native.Mathlib.Decide.{decLt}
-use lib.Dec.{ltb, eqb}
+use lib.Dec.{eqb}
 use lib.ListN.{length, getD}
 use lib.Seq.{ext-getD}
 use lib.Ieee.{Float, nan, binary64, fits, ofBits}
 use lib.Ieee.Bits.{ofBits-fits, is-true}
 use borrow.Author.Tests.{lt-ltb, le-ltb, eqb-true, eq-eqb}
 use Rattle.units.specs.declared.estimate.Estimate.{Estimate}
-use Rattle.units.specs.Limits.{runsTop, xTop, varianceTop, targetTop}
+use Rattle.units.specs.Limits.{xTop, varianceTop, targetTop}
 use Rattle.units.specs.Every.{every}
 use Rattle.units.proofs.Every.{and-left, and-right, every-at, every-all}
 use Rattle.floats.specs.Bits.{nought, sameFloat}

@@ -1,5 +1,4 @@
 // Whether floats are in their ranges, +0 and the limit with them; places that are no run hold +0.
-ghost use mathlib.Core.Bool.{_&&_};
 ghost use mathlib.Core.Path.{_≡_};
 ghost use Rattle.units.specs.Limits.{xTop, varianceTop, targetTop};
 ghost use Rattle.floats.specs.Ranges.{upTo, estimateFits, estimatePlace, stateFits, targetPlace, targetsFit};

@@ -1,5 +1,4 @@
 // Whether floats, estimates and states are the same, bit for bit.
-ghost use mathlib.Core.Bool.{_&&_};
 ghost use mathlib.Core.Path.{_≡_};
 ghost use Rattle.floats.specs.Bits.{nought, sameFloat};
 ghost use Rattle.floats.specs.Ranges.{blank, sameEstimate, sameState};

@@ -1,7 +1,7 @@
 -- `same_state` meets its contract: after i places the test so far is `every` up to i. Assumes nothing.
 use Prim.Native.Nat.{_-_, _≤_}
 use native.Mathlib.Omega.{arith}
-use mathlib.Core.Path.{_≡_, refl, _∙_}
+use mathlib.Core.Path.{_≡_, refl}
 use Rattle.units.specs.Every.{every}
 use Rattle.units.proofs.Every.{every-more}
 use Rattle.floats.specs.Ranges.{sameAt, sameState}

@@ -1,0 +1,106 @@
+-- `step` meets its contract: after i places those below i are stepped and the others are as they were. Assumes nothing.
+use mathlib.Core.Path.{_≡_}
+use mathlib.Core.List.{List}
+use mathlib.Core.Bool.{Bool}
+use Prim.Native.Nat.{ℕ, _-_, _≤_}
+use native.Mathlib.Omega.{arith}
+use native.Mathlib.Nat.{le-refl}
+use lib.Dec.{ltb}
+use lib.ListN.{getD}
+use Rattle.units.specs.declared.estimate.Estimate.{Estimate}
+use Rattle.units.specs.declared.settings.Numbers.{Numbers}
+use Rattle.units.specs.Mask.{inMask}
+use Rattle.floats.specs.Ranges.{noEstimate}
+use Rattle.filter.specs.Step.{place, stepAt, stepped}
+use Rattle.filter.proofs.Tab.{Filled, fill-none, fill-more, fill-done}
+use borrow.Author.Needs.{needs}
+use Rattle.filter.proofs.step.step.Statement.{statement}
+use Rattle.filter.proofs.step.step.Tie as tie
+
+-- what the code makes of place i is what `stepAt` says
+made : (state next : List Estimate) (n : ℕ) (s : Numbers) (chosen : ℕ) (readings : List ℕ) (i : ℕ) (b : Bool) (e : Estimate)
+    → getD next i noEstimate ≡ getD state i noEstimate → b ≡ inMask chosen i
+    → e ≡ place (ltb i (s .group .m)) (getD next i noEstimate) n (s .q) (s .r) b (getD readings i 0) (getD (s .factors) i 0)
+    → e ≡ stepAt state n s chosen readings i
+made state next n s chosen readings i b e p q h = cc
+
+abbrev Inv-loop : tie.InvT-loop
+Inv-loop n chosen numbers readings m q r next₀ i₀ next i = (i ≤ 16) × Filled (stepAt next₀ n numbers chosen readings) noEstimate 16 next₀ next i
+
+abbrev μ-loop : tie.MeasureT-loop
+μ-loop n chosen numbers readings m q r next₀ i₀ next i = 16 - i
+
+loop-holds : tie.Need-loop-holds Inv-loop μ-loop
+loop-holds c = (search needs, fill-none _ noEstimate 16 (c .args .state) (c .good .0 .1 .0 .1))
+
+has-requires : tie.Need-has-requires Inv-loop μ-loop
+has-requires c κs = search needs
+
+mul-raw : tie.Need-mul-raw Inv-loop μ-loop
+mul-raw c = search needs
+
+array-read-raw : tie.Need-array-read-raw Inv-loop μ-loop
+array-read-raw c = search needs
+
+mul-factor : tie.Need-mul-factor Inv-loop μ-loop
+mul-factor c = search needs
+
+element-copy-out-factor : tie.Need-element-copy-out-factor Inv-loop μ-loop
+element-copy-out-factor c = search needs
+
+mul-place-after : tie.Need-mul-place-after Inv-loop μ-loop
+mul-place-after c = search needs
+
+array-copy-out-place-after : tie.Need-array-copy-out-place-after Inv-loop μ-loop
+array-copy-out-place-after c = search needs
+
+place-after-requires : tie.Need-place-after-requires Inv-loop μ-loop
+place-after-requires c κs = search needs
+
+mul-next : tie.Need-mul-next Inv-loop μ-loop
+mul-next c = search needs
+
+array-set-from-next : tie.Need-array-set-from-next Inv-loop μ-loop
+array-set-from-next c = search needs
+
+add-i : tie.Need-add-i Inv-loop μ-loop
+add-i c = search needs
+
+loop-less : tie.Need-loop-less Inv-loop μ-loop
+loop-less c = search needs
+
+loop-again : tie.Need-loop-again Inv-loop μ-loop
+loop-again c =
+    let in-loop = c .before .before .before .before in
+    let l = in-loop .before .loop in
+    let a = in-loop .before .before .args in (
+      omega arith,
+      fill-more _ noEstimate 16 (a .state) (l .next) (l .i) (c .place-after .result) (l .inv .1) (in-loop .loop-test .taken)
+          (made (a .state) (l .next) (a .n) (a .t3) (a .chosen) (a .t5) (l .i) _ _ (l .inv .1 .2 (l .i) (le-refl (l .i))) (c .before .before .before .has .ensures) (c .place-after .ensures)),
+    )
+
+returns : tie.Need-returns Inv-loop μ-loop
+unfolding stepped
+returns c = fill-done _ noEstimate 16 (c .before .before .args .state) (c .before .loop .next) (c .before .loop .i) (c .before .loop .inv .1) (c .loop-test .left)
+
+pub step-spec : {M : Type 1} → statement M
+step-spec =
+    tie.close
+    (tie.spec
+    Inv-loop
+    μ-loop
+    loop-holds
+    has-requires
+    mul-raw
+    array-read-raw
+    mul-factor
+    element-copy-out-factor
+    mul-place-after
+    array-copy-out-place-after
+    place-after-requires
+    mul-next
+    array-set-from-next
+    add-i
+    loop-less
+    loop-again
+    returns)

@@ -1,0 +1,55 @@
+-- Values handed in "with anything out of range get 6, before all else": what is in range here, and what is answered.
+use Prim.Native.Nat.{ℕ}
+use mathlib.Core.Bool.{Bool, true, false, _&&_}
+use mathlib.Core.List.{List}
+use lib.Dec.{leb, ltb, eqb}
+use lib.ListN.{getD, replicate}
+use Rattle.units.specs.declared.labels.RoundLabel.{RoundLabel}
+use Rattle.units.specs.declared.labels.StateLabel.{StateLabel}
+use Rattle.units.specs.declared.estimate.Estimate.{Estimate}
+use Rattle.units.specs.declared.settings.Numbers.{Numbers}
+use Rattle.units.specs.declared.refusal.Refusal.the-variants.{Range}
+use Rattle.units.specs.declared.refusal.Verdict.the-variants.{Taken, Refused}
+use Rattle.units.specs.Labels.{before}
+use Rattle.units.specs.Limits.{rawTop, runsTop}
+use Rattle.units.specs.Mask.{maskEnd}
+use Rattle.units.specs.Every.{every}
+use Rattle.units.specs.Settings.{numbersFit}
+use Rattle.floats.specs.Bits.{nought}
+use Rattle.floats.specs.Ranges.{stateFits}
+use Rattle.filter.specs.declared.checked.Checked.{Checked}
+use Rattle.filter.specs.Compute.{computed}
+
+-- a run has a reading in range, any other place has 0
+abbrev pub readingPlace : Bool → ℕ → Bool
+readingPlace true raw = leb raw rawTop
+readingPlace false raw = eqb raw 0
+
+abbrev pub readingAt : ℕ → List ℕ → ℕ → Bool
+readingAt m readings i = readingPlace (ltb i m) (getD readings i 0)
+
+unfoldable pub readingsFit : ℕ → List ℕ → Bool
+readingsFit m readings = every (readingAt m readings) runsTop
+
+-- "it isn't 0000 and has no bit at m or above"
+abbrev pub chosenFits : ℕ → ℕ → Bool
+chosenFits m chosen = ltb 0 chosen && ltb chosen (maskEnd m)
+
+-- a base below the label, which is then not 0
+unfoldable pub inputsFit : RoundLabel → StateLabel → List Estimate → Numbers → ℕ → List ℕ → Bool
+unfolding readingsFit
+inputsFit label base state s chosen readings =
+    (numbersFit s && stateFits (s .group .m) state)
+    && (before base label && chosenFits (s .group .m) chosen && readingsFit (s .group .m) readings)
+
+-- in range or not: taken and computed, or 6 with the state as it was and every target +0
+unfoldable pub answer : Bool → RoundLabel → StateLabel → List Estimate → Numbers → ℕ → List ℕ → Checked
+answer true label base state s chosen readings =
+    record { verdict = Taken; computed = computed label base state s chosen readings }
+answer false label base state s chosen readings =
+    record { verdict = Refused Range; computed = record { state = state; targets = replicate runsTop nought } }
+
+unfoldable pub checked : RoundLabel → StateLabel → List Estimate → Numbers → ℕ → List ℕ → Checked
+unfolding inputsFit answer
+checked label base state s chosen readings =
+    answer (inputsFit label base state s chosen readings) label base state s chosen readings

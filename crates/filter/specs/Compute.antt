@@ -1,0 +1,30 @@
+-- What a decided round computes, from both labels, the state, the numbers of the settings, the chosen mask and the readings.
+use Prim.Native.Nat.{ℕ}
+use mathlib.Core.List.{List}
+use lib.Ieee.{Float}
+use Rattle.units.specs.declared.labels.RoundLabel.{RoundLabel}
+use Rattle.units.specs.declared.labels.StateLabel.{StateLabel}
+use Rattle.units.specs.declared.estimate.Estimate.{Estimate}
+use Rattle.units.specs.declared.settings.Numbers.{Numbers}
+use Rattle.units.specs.Labels.{correction}
+use Rattle.filter.specs.declared.compute.Computed.{Computed}
+use Rattle.filter.specs.Step.{stepped}
+use Rattle.filter.specs.Share.{total, targets}
+
+-- "n = label - state label. For each run .."
+unfoldable pub newState : RoundLabel → StateLabel → List Estimate → Numbers → ℕ → List ℕ → List Estimate
+unfolding stepped
+newState label base state s chosen readings = stepped state (correction label base) s chosen readings
+
+-- the total of the new state
+unfoldable pub newTotal : RoundLabel → StateLabel → List Estimate → Numbers → ℕ → List ℕ → Float
+unfolding newState total
+newTotal label base state s chosen readings = total (s .group .m) (newState label base state s chosen readings)
+
+unfoldable pub computed : RoundLabel → StateLabel → List Estimate → Numbers → ℕ → List ℕ → Computed
+unfolding newState newTotal targets
+computed label base state s chosen readings =
+    record {
+      state = newState label base state s chosen readings;
+      targets = targets (newTotal label base state s chosen readings) s;
+    }

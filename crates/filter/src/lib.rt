@@ -1,0 +1,11 @@
+// Computing: from a state and the chosen readings to the new state and the targets, bit for bit.
+pub mod checked;
+pub mod compute;
+pub mod hold;
+pub mod run;
+pub mod share;
+pub mod step;
+
+pub use checked::Checked;
+pub use compute::Computed;
+pub use run::Outcome;
