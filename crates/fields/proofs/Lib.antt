@@ -1,0 +1,11 @@
+-- The laws of `fields` that belong to no one function.
+pub mod Cases
+pub mod Numbers
+pub mod Texts
+pub mod Scans
+pub mod Certificates
+pub mod Spellings
+pub mod Puts
+-- what the functions' proofs need, and no caller's
+mod Reading
+mod Writing

@@ -1,0 +1,42 @@
+-- Digits, the numbers that they say, and the digits of a number.
+use Prim.Native.Nat.{ℕ, zero, suc, _+_, _-_, _*_, _/_, _%_}
+use mathlib.Core.List.{List, [], _∷_, _++_}
+use mathlib.Core.Bool.{Bool, true, false}
+use lib.ListN.{length}
+use lib.Dec.{ltb, eqb}
+use Rattle.fields.specs.declared.digit.Digits.{Digits}
+use Rattle.fields.specs.declared.digit.Digits.the-variants.{Said, Wrong}
+
+abbrev pub pick : {A : Type 0} → Bool → A → A → A
+pick true a b = a
+pick false a b = b
+
+-- the value of a decimal or upper-case hex digit, 16 of any other byte
+unfoldable pub digitOf : ℕ → ℕ
+digitOf b = pick (ltb b 48) 16 (pick (ltb b 58) (b - 48) (pick (ltb b 65) 16 (pick (ltb b 71) (b - 55) 16)))
+
+-- the byte of a digit
+unfoldable pub charOf : ℕ → ℕ
+charOf d = pick (ltb d 10) (48 + d) (55 + d)
+
+-- the number that bytes say as digits to a base, after digits that say n; Wrong where one is no digit
+unfoldable pub valueFrom : ℕ → ℕ → List ℕ → Digits
+valueFrom base n [] = Said n
+valueFrom base n (c ∷ cs) = pick (ltb (digitOf c) base) (valueFrom base (n * base + digitOf c) cs) Wrong
+
+-- the same of exactly k bytes
+unfoldable pub fixedIn : ℕ → ℕ → ℕ → List ℕ → Digits
+fixedIn base k n cs = pick (eqb (length cs) k) (valueFrom base n cs) Wrong
+
+-- n in k digits to a base
+unfoldable pub fixed : ℕ → ℕ → ℕ → List ℕ
+fixed base zero n = []
+fixed base (suc k) n = fixed base k (n / base) ++ (charOf (n % base) ∷ [])
+
+-- n in at most k decimal digits, with no leading zero but 0 itself
+unfoldable pub decimalIn : ℕ → ℕ → List ℕ
+decimalIn zero n = []
+decimalIn (suc k) n = pick (ltb n 10) (charOf n ∷ []) (decimalIn k (n / 10) ++ (charOf (n % 10) ∷ []))
+
+unfoldable pub decimal : ℕ → List ℕ
+decimal n = decimalIn (suc n) n

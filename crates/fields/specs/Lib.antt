@@ -1,0 +1,6 @@
+-- The definitions of `fields`.
+pub mod Digits
+pub mod Text
+pub mod Field
+pub mod Certificate
+pub mod Put

@@ -1,0 +1,88 @@
+-- `Brief::on_digest` meets its contract. Assumes nothing.
+use mathlib.Core.Path.{sym, ap, _∙_}
+use mathlib.Core.Bool.{not}
+use borrow.Author.Tests.{eq-eqb, ne-eqb}
+use Rattle.units.proofs.Picked.{by-yes, by-no, along}
+use Rattle.plan.specs.Votes.{inDigest, planDigest}
+use borrow.Author.Needs.{needs}
+use Rattle.plan.proofs.brief.Brief.on_digest.Statement.{statement}
+use Rattle.plan.proofs.brief.Brief.on_digest.Tie as tie
+
+refusal-requires : tie.Need-refusal-requires
+refusal-requires c κs = search needs
+
+returns : tie.Need-returns
+unfolding planDigest inDigest
+returns c = by-yes _ (eq-eqb _ _ (c .before .if1 .taken)) (c .refusal .ensures)
+
+same-requires : tie.Need-same-requires
+same-requires c κs = search needs
+
+refusal-requires-2 : tie.Need-refusal-requires-2
+refusal-requires-2 c κs = search needs
+
+returns-2 : tie.Need-returns-2
+unfolding planDigest inDigest
+returns-2 c = by-no _ (ne-eqb _ _ (c .before .before .before .if1 .left)) (by-yes _ (ap not (sym (c .before .before .same .ensures)) ∙ c .before .if2 .taken) (c .refusal2 .ensures))
+
+enum-told : tie.Need-enum-told
+enum-told c = search needs
+
+refusal-requires-3 : tie.Need-refusal-requires-3
+refusal-requires-3 c κs = search needs
+
+enum-told-2 : tie.Need-enum-told-2
+enum-told-2 c = search needs
+
+seat-requires : tie.Need-seat-requires
+seat-requires c κs = search needs
+
+enum-told-3 : tie.Need-enum-told-3
+enum-told-3 c = search needs
+
+seat-requires-2 : tie.Need-seat-requires-2
+seat-requires-2 c κs = search needs
+
+enum-told-4 : tie.Need-enum-told-4
+enum-told-4 c = search needs
+
+seat-requires-3 : tie.Need-seat-requires-3
+seat-requires-3 c κs = search needs
+
+returns-3 : tie.Need-returns-3
+unfolding planDigest inDigest
+returns-3 c = by-no _ (ne-eqb _ _ (c .before .before .before .before .before .if1 .left)) (by-no _ (ap not (sym (c .before .before .before .before .same .ensures)) ∙ c .before .before .before .if2 .left) (along (inDigest (c .before .before .before .before .before .before .before .before .args .self) (c .before .before .before .before .before .before .before .before .args .cast) (c .before .before .before .before .before .before .before .before .args .sender) (c .before .before .before .before .before .before .before .before .args .digest)) (c .before .enum-told .given .1) (c .refusal3 .ensures)))
+
+returns-4 : tie.Need-returns-4
+unfolding planDigest inDigest
+returns-4 c = by-no _ (ne-eqb _ _ (c .before .before .before .before .before .if1 .left)) (by-no _ (ap not (sym (c .before .before .before .before .same .ensures)) ∙ c .before .before .before .if2 .left) (along (inDigest (c .before .before .before .before .before .before .before .before .args .self) (c .before .before .before .before .before .before .before .before .args .cast) (c .before .before .before .before .before .before .before .before .args .sender) (c .before .before .before .before .before .before .before .before .args .digest)) (c .before .enum-told2 .given .1) (c .seat .ensures)))
+
+returns-5 : tie.Need-returns-5
+unfolding planDigest inDigest
+returns-5 c = by-no _ (ne-eqb _ _ (c .before .before .before .before .before .if1 .left)) (by-no _ (ap not (sym (c .before .before .before .before .same .ensures)) ∙ c .before .before .before .if2 .left) (along (inDigest (c .before .before .before .before .before .before .before .before .args .self) (c .before .before .before .before .before .before .before .before .args .cast) (c .before .before .before .before .before .before .before .before .args .sender) (c .before .before .before .before .before .before .before .before .args .digest)) (c .before .enum-told3 .given .1) (c .seat2 .ensures)))
+
+returns-6 : tie.Need-returns-6
+unfolding planDigest inDigest
+returns-6 c = by-no _ (ne-eqb _ _ (c .before .before .before .before .before .if1 .left)) (by-no _ (ap not (sym (c .before .before .before .before .same .ensures)) ∙ c .before .before .before .if2 .left) (along (inDigest (c .before .before .before .before .before .before .before .before .args .self) (c .before .before .before .before .before .before .before .before .args .cast) (c .before .before .before .before .before .before .before .before .args .sender) (c .before .before .before .before .before .before .before .before .args .digest)) (c .before .enum-told4 .given .1) (c .seat3 .ensures)))
+
+pub on-digest-spec : {M : Type 1} → statement M
+on-digest-spec =
+    tie.close
+    (tie.spec
+    refusal-requires
+    returns
+    same-requires
+    refusal-requires-2
+    returns-2
+    enum-told
+    refusal-requires-3
+    enum-told-2
+    seat-requires
+    enum-told-3
+    seat-requires-2
+    enum-told-4
+    seat-requires-3
+    returns-3
+    returns-4
+    returns-5
+    returns-6)

@@ -1,0 +1,48 @@
+-- `Brief::settle` meets its contract. Assumes nothing.
+use mathlib.Core.Path.{sym, ap, _∙_}
+use mathlib.Core.Bool.{not}
+use Rattle.units.proofs.Picked.{by-yes, by-no}
+use Rattle.plan.specs.Votes.{chosenPlan}
+use borrow.Author.Needs.{needs}
+use Rattle.plan.proofs.brief.Brief.settle.Statement.{statement}
+use Rattle.plan.proofs.brief.Brief.settle.Tie as tie
+
+before-requires : tie.Need-before-requires
+before-requires c κs = search needs
+
+end-requires : tie.Need-end-requires
+end-requires c κs = search needs
+
+returns : tie.Need-returns
+unfolding chosenPlan
+returns c = by-yes _ (ap not (sym (c .before .before .before2 .ensures)) ∙ c .before .if1 .taken) (c .end .ensures)
+
+possesses-requires : tie.Need-possesses-requires
+possesses-requires c κs = search needs
+
+end-requires-2 : tie.Need-end-requires-2
+end-requires-2 c κs = search needs
+
+returns-2 : tie.Need-returns-2
+unfolding chosenPlan
+returns-2 c = by-no _ (ap not (sym (c .before .before .before .before .before2 .ensures)) ∙ c .before .before .before .if1 .left) (by-yes _ (ap not (sym (c .before .before .possesses .ensures)) ∙ c .before .if2 .taken) (c .end2 .ensures))
+
+sending-after-requires : tie.Need-sending-after-requires
+sending-after-requires c κs = search needs
+
+returns-3 : tie.Need-returns-3
+unfolding chosenPlan
+returns-3 c = by-no _ (ap not (sym (c .before .before .before .before .before2 .ensures)) ∙ c .before .before .before .if1 .left) (by-no _ (ap not (sym (c .before .before .possesses .ensures)) ∙ c .before .if2 .left) (c .sending-after .ensures))
+
+pub settle-spec : {M : Type 1} → statement M
+settle-spec =
+    tie.close
+    (tie.spec
+    before-requires
+    end-requires
+    returns
+    possesses-requires
+    end-requires-2
+    returns-2
+    sending-after-requires
+    returns-3)
