@@ -13,7 +13,7 @@ use Rattle.units.proofs.Every.{and-left, and-right}
 use Rattle.vote.specs.declared.judge.Decision.{Decision}
 use Rattle.vote.specs.declared.judge.Decision.the-variants.{Undecided, Decided, Refused}
 use Rattle.vote.specs.Digest.{legal, same, rank, unrank, full, least}
-use Rattle.vote.specs.Vote.{Answers, seatFits, votesFit}
+use Rattle.vote.specs.Vote.{Answers, seatFits, seatsFit, votesFit}
 use Rattle.vote.specs.Decision.{tallyOf, strengthOf, largest, otherThan, outsider, missingOf, heldOff, rivalOf, settledAt, settled, decision}
 use Rattle.vote.proofs.Order.{same-true}
 use Rattle.vote.proofs.Answer.{decision-exact}
@@ -64,5 +64,5 @@ each (r ∷ rs) h = (holds r (and-left (test r) (testEach rs) h), each rs (and-r
 
 -- v1 to v12
 pub cases : Each table
-unfolding table testEach test sameDecision decision settled settledAt rivalOf heldOff missingOf outsider otherThan largest strengthOf tallyOf votesFit seatFits groupFits every legal same rank unrank full least ones pick
+unfolding table testEach test sameDecision decision settled settledAt rivalOf heldOff missingOf outsider otherThan largest strengthOf tallyOf votesFit seatsFit seatFits groupFits every legal same rank unrank full least ones pick
 cases = each table refl

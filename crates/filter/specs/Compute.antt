@@ -21,6 +21,11 @@ unfoldable pub newTotal : RoundLabel → StateLabel → List Estimate → Number
 unfolding newState total
 newTotal label base state s chosen readings = total (s .group .m) (newState label base state s chosen readings)
 
+-- the targets that a state gives
+unfoldable pub setPoints : Numbers → List Estimate → List Float
+unfolding total targets
+setPoints s state = targets (total (s .group .m) state) s
+
 unfoldable pub computed : RoundLabel → StateLabel → List Estimate → Numbers → ℕ → List ℕ → Computed
 unfolding newState newTotal targets
 computed label base state s chosen readings =

@@ -1,6 +1,6 @@
 // What a decided round computes.
 ghost use mathlib.Core.Path.{_≡_};
-ghost use Rattle.filter.specs.Compute.{computed};
+ghost use Rattle.filter.specs.Compute.{computed, newState, setPoints};
 use crate::share::targets_of;
 use crate::share::total_of;
 use crate::step::step;
@@ -15,6 +15,28 @@ pub struct Computed {
     pub targets: [f64; 16],
 }
 
+// The state that a round leaves.
+pub fn state_after(
+    label: RoundLabel,
+    base: StateLabel,
+    state: [Estimate; 16],
+    numbers: Numbers,
+    chosen: u32,
+    readings: [u32; 16],
+) -> [Estimate; 16]
+    ensures { λ r. ⌜ r ≡ newState label base state numbers chosen readings ⌝ }
+{
+    step(state, label.since(base), numbers, chosen, readings)
+}
+
+// The targets that a state gives.
+pub fn targets_from(state: [Estimate; 16], numbers: Numbers) -> [f64; 16]
+    ensures { λ r. ⌜ r ≡ setPoints numbers state ⌝ }
+{
+    let m = numbers.group.m;
+    targets_of(total_of(m, state), numbers)
+}
+
 pub fn compute(
     label: RoundLabel,
     base: StateLabel,
@@ -25,10 +47,8 @@ pub fn compute(
 ) -> Computed
     ensures { λ r. ⌜ r ≡ computed label base state numbers chosen readings ⌝ }
 {
-    let n = label.since(base);
-    let m = numbers.group.m;
-    let next = step(state, n, numbers, chosen, readings);
-    let targets = targets_of(total_of(m, next), numbers);
+    let next = state_after(label, base, state, numbers, chosen, readings);
+    let targets = targets_from(next, numbers);
     Computed {
         state: next,
         targets,

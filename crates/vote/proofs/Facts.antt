@@ -19,7 +19,7 @@ use Rattle.vote.specs.declared.votes.Ballot.the-variants.{Missing, Cast}
 use Rattle.vote.specs.declared.votes.Seat.{Seat}
 use Rattle.vote.specs.declared.votes.Votes.{Votes}
 use Rattle.vote.specs.Digest.{legal}
-use Rattle.vote.specs.Vote.{votesFor, gap, total, count, missing, ballotOf, allBallots, ballots, seatFits, seatAt, votesFit}
+use Rattle.vote.specs.Vote.{votesFor, gap, total, count, missing, ballotOf, allBallots, ballots, seatFits, seatAt, seatsFit, votesFit}
 use Rattle.vote.proofs.Order.{Round}
 use Rattle.vote.proofs.Counting.{AtBallot, All, total-append}
 
@@ -69,20 +69,23 @@ seat-beyond m label (Cast d) h = let z : _≡_ {A = ℕ} 0 1 = cc in omega arith
 module _ (v : Votes) (fit : votesFit v ≡ true) where
   group-fits : groupFits (v .group) ≡ true
   unfolding votesFit
-  group-fits = and-left (groupFits (v .group)) (roundFits (v .label)) (and-left (groupFits (v .group) && roundFits (v .label)) _ (and-left (groupFits (v .group) && roundFits (v .label) && eqb (length (v .seats)) 7) _ fit))
+  group-fits = and-left (groupFits (v .group)) (roundFits (v .label)) (and-left (groupFits (v .group) && roundFits (v .label)) _ fit)
 
   round-fits : roundFits (v .label) ≡ true
   unfolding votesFit
-  round-fits = and-right (groupFits (v .group)) (roundFits (v .label)) (and-left (groupFits (v .group) && roundFits (v .label)) _ (and-left (groupFits (v .group) && roundFits (v .label) && eqb (length (v .seats)) 7) _ fit))
+  round-fits = and-right (groupFits (v .group)) (roundFits (v .label)) (and-left (groupFits (v .group) && roundFits (v .label)) _ fit)
+
+  seats-fit : seatsFit (v .group) (v .label) (v .seats) ≡ true
+  unfolding votesFit
+  seats-fit = and-right (groupFits (v .group) && roundFits (v .label)) _ fit
 
   seven : length (v .seats) ≡ 7
-  unfolding votesFit
-  seven = eqb-true _ _ (and-right (groupFits (v .group) && roundFits (v .label)) _ (and-left (groupFits (v .group) && roundFits (v .label) && eqb (length (v .seats)) 7) _ fit))
+  unfolding seatsFit
+  seven = eqb-true _ _ (and-left (eqb (length (v .seats)) 7) _ seats-fit)
 
-  seat-fits : (i : ℕ) → i < length (v .seats) → seatAt v i ≡ true
-  unfolding votesFit
-  seat-fits i k =
-      every-at (seatAt v) 7 i (and-right (groupFits (v .group) && roundFits (v .label) && eqb (length (v .seats)) 7) _ fit) (omega (arith, seven))
+  seat-fits : (i : ℕ) → i < length (v .seats) → seatAt (v .group) (v .label) (v .seats) i ≡ true
+  unfolding seatsFit
+  seat-fits i k = every-at (seatAt (v .group) (v .label) (v .seats)) 7 i (and-right (eqb (length (v .seats)) 7) _ seats-fit) (omega (arith, seven))
 
   pub groups : v .group .g ≤ 7
   unfolding groupFits

@@ -7,6 +7,7 @@ use lib.Dec.{eqb, ltb}
 use lib.ListN.{length, take, getD}
 use Rattle.units.specs.declared.labels.RoundLabel.{RoundLabel}
 use Rattle.units.specs.declared.refusal.Refusal.{Refusal}
+use Rattle.units.specs.declared.settings.Group.{Group}
 use Rattle.units.specs.Every.{every}
 use Rattle.units.specs.Labels.{roundFits}
 use Rattle.units.specs.Limits.{controllersTop}
@@ -80,12 +81,16 @@ unfoldable pub seatFits : Bool → ℕ → RoundLabel → Ballot → Bool
 seatFits inside m label Missing = true
 seatFits inside m label (Cast d) = inside && legal m label d
 
-abbrev pub seatAt : Votes → ℕ → Bool
-seatAt v i = seatFits (ltb i (v .group .g)) (v .group .m) (v .label) (getD (v .seats) i (record { ballot = Missing }) .ballot)
+abbrev pub seatAt : Group → RoundLabel → List Seat → ℕ → Bool
+seatAt group label seats i = seatFits (ltb i (group .g)) (group .m) label (getD seats i (record { ballot = Missing }) .ballot)
 
--- nothing is out of range; there are seven seats
+-- there are seven seats
+unfoldable pub seatsFit : Group → RoundLabel → List Seat → Bool
+seatsFit group label seats = eqb (length seats) controllersTop && every (seatAt group label seats) controllersTop
+
+-- nothing is out of range
 unfoldable pub votesFit : Votes → Bool
-votesFit v = (groupFits (v .group) && roundFits (v .label) && eqb (length (v .seats)) controllersTop) && every (seatAt v) controllersTop
+votesFit v = groupFits (v .group) && roundFits (v .label) && seatsFit (v .group) (v .label) (v .seats)
 
 abbrev pub Decides : Votes → Digest → Type 0
 Decides v d = DecidedFor (v .group .m) (v .label) (ballots v) d

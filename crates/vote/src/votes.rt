@@ -1,6 +1,6 @@
 // The votes of one round, handed in as a value.
 ghost use mathlib.Core.Path.{_≡_};
-ghost use Rattle.vote.specs.Vote.{rankOf, seatFits, votesFit};
+ghost use Rattle.vote.specs.Vote.{rankOf, seatFits, seatsFit, votesFit};
 use crate::digest::Digest;
 use units::Group;
 use units::RoundLabel;
@@ -47,20 +47,27 @@ impl Seat {
     }
 }
 
+// Whether each of seven seats is in range.
+pub fn seats_in_range(seats: [Seat; 7], group: Group, label: RoundLabel) -> bool
+    ensures { λ r. ⌜ r ≡ seatsFit group label seats ⌝ }
+{
+    let mut fit = true;
+    let mut i = 0usize;
+    while i < CONTROLLERS {
+        let seat = seats[i];
+        fit = fit & seat.in_range(i < group.g, group.m, label);
+        i += 1;
+    }
+    fit
+}
+
 impl Votes {
     pub fn in_range(self) -> bool
         ensures { λ r. ⌜ r ≡ votesFit self ⌝ }
     {
         let group = self.group;
         let label = self.label;
-        let g = group.g;
-        let mut fit = group.in_range() & label.in_range();
-        let mut i = 0usize;
-        while i < CONTROLLERS {
-            let seat = self.seats[i];
-            fit = fit & seat.in_range(i < g, group.m, label);
-            i += 1;
-        }
-        fit
+        let seats = self.seats;
+        group.in_range() & label.in_range() & seats_in_range(seats, group, label)
     }
 }

@@ -1,0 +1,118 @@
+//! A second `station`, written from document 01 alone, to compare the proved one with.
+//!
+//! `station` reads standard input; `station --fast` does the same and decides the vote by counting;
+//! `station --selftest` checks the session and the cases of document 01.
+
+mod controller;
+mod filter;
+mod line;
+mod selftest;
+mod session;
+mod vote;
+mod wrong;
+
+use session::Station;
+use std::io::{self, Read, Write};
+use std::process::ExitCode;
+
+/// The size of the blocks that are read, and of the answers that are kept before they are written.
+const BLOCK: usize = 1 << 16;
+
+/// Takes the bytes of the input and hands lines on. Of a line it holds 601 bytes at most.
+struct Cutter {
+    station: Station,
+    begun: Vec<u8>,
+    answers: Vec<u8>,
+}
+
+impl Cutter {
+    fn new(station: Station) -> Cutter {
+        Cutter { station, begun: Vec::new(), answers: Vec::new() }
+    }
+
+    /// Keeps the start of a line. One byte over the longest line is enough to know it as long.
+    fn keep(&mut self, bytes: &[u8]) {
+        let room = line::LINE + 1 - self.begun.len();
+        self.begun.extend_from_slice(&bytes[..bytes.len().min(room)]);
+    }
+
+    /// Takes the rest of a line, its line feed included.
+    fn take_line(&mut self, bytes: &[u8]) {
+        if self.begun.is_empty() {
+            self.station.take(bytes, &mut self.answers);
+        } else {
+            self.keep(bytes);
+            self.station.take(&self.begun, &mut self.answers);
+            self.begun.clear();
+        }
+    }
+
+    fn take_block(&mut self, block: &[u8], output: &mut impl Write) -> io::Result<()> {
+        let mut rest = block;
+        while let Some(at) = rest.iter().position(|b| *b == b'\n') {
+            self.take_line(&rest[..=at]);
+            rest = &rest[at + 1..];
+            if self.answers.len() > BLOCK {
+                self.write_answers(output)?;
+            }
+        }
+        self.keep(rest);
+        self.write_answers(output)
+    }
+
+    fn take_end(&mut self, output: &mut impl Write) -> io::Result<()> {
+        self.station.end(&self.begun, &mut self.answers);
+        self.write_answers(output)
+    }
+
+    fn write_answers(&mut self, output: &mut impl Write) -> io::Result<()> {
+        if !self.answers.is_empty() {
+            output.write_all(&self.answers)?;
+            output.flush()?;
+            self.answers.clear();
+        }
+        Ok(())
+    }
+}
+
+/// Serves the input to its end, or to refused settings.
+fn serve(station: Station, input: &mut impl Read, output: &mut impl Write) -> io::Result<()> {
+    let mut cutter = Cutter::new(station);
+    let mut block = vec![0; BLOCK];
+    while cutter.station.refused.is_none() {
+        match input.read(&mut block) {
+            Ok(0) => return cutter.take_end(output),
+            Ok(length) => cutter.take_block(&block[..length], output)?,
+            Err(e) if e.kind() == io::ErrorKind::Interrupted => {}
+            Err(e) => return Err(e),
+        }
+    }
+    Ok(())
+}
+
+fn run(decide: vote::Decide) -> ExitCode {
+    let served = serve(Station::new(decide), &mut io::stdin().lock(), &mut io::stdout().lock());
+    ExitCode::from(u8::from(served.is_err()))
+}
+
+#[cfg(wrong)]
+fn run_wrong(name: &str) -> ExitCode {
+    wrong::choose(name);
+    run(if wrong::is("shortcut") { vote::decided_by_shortcut } else { vote::decided })
+}
+
+fn main() -> ExitCode {
+    let arguments: Vec<String> = std::env::args().skip(1).collect();
+    let arguments: Vec<&str> = arguments.iter().map(String::as_str).collect();
+    match arguments[..] {
+        [] => run(vote::decided),
+        ["--fast"] => run(vote::decided_by_count),
+        ["--selftest"] => selftest::run(),
+        #[cfg(wrong)]
+        ["--wrong", name] => run_wrong(name),
+        _ => {
+            eprintln!("station [--fast | --selftest]");
+            ExitCode::from(2)
+        }
+    }
+}
