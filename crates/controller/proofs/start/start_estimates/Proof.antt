@@ -1,0 +1,62 @@
+-- `start_estimates` meets its contract: the first i places are those of a start. Assumes nothing.
+use borrow.Author.Needs.{needs}
+use Prim.Native.Nat.{ℕ, _-_, _≤_, _<_}
+use native.Mathlib.Omega.{arith}
+use mathlib.Core.Path.{_≡_, refl}
+use lib.Dec.{ltb}
+use lib.ListN.{replicate}
+use Rattle.units.specs.declared.estimate.Estimate.{Estimate}
+use Rattle.floats.specs.Ranges.{blank, noEstimate}
+use Rattle.filter.proofs.Tab.{Filled, fill-none, fill-more, fill-done}
+use Rattle.controller.specs.Start.{startAt, startEstimates}
+use Rattle.controller.proofs.start.start_estimates.Statement.{statement}
+use Rattle.controller.proofs.start.start_estimates.Tie as tie
+
+abbrev place : ℕ → ℕ → ℕ → Estimate
+place m p j = startAt (ltb j m) p
+
+abbrev Inv-loop : tie.InvT-loop
+Inv-loop m p estimates₀ i₀ estimates i = (i ≤ 16) × Filled (place m p) noEstimate 16 estimates₀ estimates i
+
+abbrev μ-loop : tie.MeasureT-loop
+μ-loop m p estimates₀ i₀ estimates i = 16 - i
+
+loop-holds : tie.Need-loop-holds Inv-loop μ-loop
+loop-holds c = (omega arith, fill-none (place (c .args .m) (c .args .p)) noEstimate 16 (replicate 16 blank) refl)
+
+start-place-requires : tie.Need-start-place-requires Inv-loop μ-loop
+start-place-requires c κs = search needs
+
+mul-estimates : tie.Need-mul-estimates Inv-loop μ-loop
+mul-estimates c = search needs
+
+array-set-from-estimates : tie.Need-array-set-from-estimates Inv-loop μ-loop
+array-set-from-estimates c = search needs
+
+add-i : tie.Need-add-i Inv-loop μ-loop
+add-i c = omega arith
+
+loop-less : tie.Need-loop-less Inv-loop μ-loop
+loop-less c = omega arith
+
+loop-again : tie.Need-loop-again Inv-loop μ-loop
+loop-again c = let a = c .before .before .before .args in let v = c .before .before .loop in let h : v .i < 16 = omega arith in (omega arith, fill-more (place (a .m) (a .p)) noEstimate 16 (replicate 16 blank) (v .estimates) (v .i) (c .start-place .result) (v .inv .1) h (c .start-place .ensures))
+
+returns : tie.Need-returns Inv-loop μ-loop
+unfolding startEstimates
+returns c = let a = c .before .before .args in let v = c .before .loop in let h : 16 ≤ v .i = omega arith in fill-done (place (a .m) (a .p)) noEstimate 16 (replicate 16 blank) (v .estimates) (v .i) (v .inv .1) h
+
+pub start-estimates-spec : {M : Type 1} → statement M
+start-estimates-spec =
+    tie.close
+    (tie.spec
+    Inv-loop
+    μ-loop
+    loop-holds
+    start-place-requires
+    mul-estimates
+    array-set-from-estimates
+    add-i
+    loop-less
+    loop-again
+    returns)

@@ -1,0 +1,63 @@
+-- `Controller::counted` meets its contract. Assumes nothing.
+use mathlib.Core.Path.{refl, ap, _∙_}
+use Rattle.units.proofs.Picked.{along}
+use Rattle.controller.specs.Step.{judgedIn}
+use Rattle.controller.specs.State.{briefOf}
+use Rattle.plan.specs.Votes.{judged}
+use Rattle.plan.specs.declared.brief.Brief.{Brief}
+use borrow.Author.Needs.{needs}
+use Rattle.controller.proofs.state.Controller.counted.Statement.{statement}
+use Rattle.controller.proofs.state.Controller.counted.Tie as tie
+
+enum-told : tie.Need-enum-told
+enum-told c = search needs
+
+enum-told-2 : tie.Need-enum-told-2
+enum-told-2 c = search needs
+
+enum-told-3 : tie.Need-enum-told-3
+enum-told-3 c = search needs
+
+enum-told-4 : tie.Need-enum-told-4
+enum-told-4 c = search needs
+
+decision-requires : tie.Need-decision-requires
+decision-requires c κs = search needs
+
+brief-requires : tie.Need-brief-requires
+brief-requires c κs = search needs
+
+judge-requires : tie.Need-judge-requires
+judge-requires c κs = search needs
+
+returns : tie.Need-returns
+unfolding judgedIn
+returns c = along (judgedIn (c .before .before .args .numbers) (c .before .before .args .self) (c .before .before .args .plan) (c .before .before .args .seat) (c .before .before .args .digest)) (c .enum-told .given .1) (refl)
+
+returns-2 : tie.Need-returns-2
+unfolding judgedIn
+returns-2 c = along (judgedIn (c .before .before .args .numbers) (c .before .before .args .self) (c .before .before .args .plan) (c .before .before .args .seat) (c .before .before .args .digest)) (c .enum-told2 .given .1) (refl)
+
+returns-3 : tie.Need-returns-3
+unfolding judgedIn
+returns-3 c = along (judgedIn (c .before .before .args .numbers) (c .before .before .args .self) (c .before .before .args .plan) (c .before .before .args .seat) (c .before .before .args .digest)) (c .enum-told3 .given .1) (refl)
+
+returns-4 : tie.Need-returns-4
+unfolding judgedIn
+returns-4 c = along (judgedIn (c .before .before .before .before .before .args .numbers) (c .before .before .before .before .before .args .self) (c .before .before .before .before .before .args .plan) (c .before .before .before .before .before .args .seat) (c .before .before .before .before .before .args .digest)) (c .before .before .before .enum-told4 .given .1) (c .judge .ensures ∙ ap (λ (b : Brief). judged b (c .before .before .before .before .before .args .seat) (c .before .before .before .before .before .args .digest) (c .before .before .before .before .before .args .plan .first) (c .before .before .decision .result)) (c .before .brief .ensures) ∙ ap (judged (briefOf (c .before .before .before .before .before .args .self)) (c .before .before .before .before .before .args .seat) (c .before .before .before .before .before .args .digest) (c .before .before .before .before .before .args .plan .first)) (c .before .before .decision .ensures))
+
+pub counted-spec : {M : Type 1} → statement M
+counted-spec =
+    tie.close
+    (tie.spec
+    enum-told
+    enum-told-2
+    enum-told-3
+    enum-told-4
+    decision-requires
+    brief-requires
+    judge-requires
+    returns
+    returns-2
+    returns-3
+    returns-4)

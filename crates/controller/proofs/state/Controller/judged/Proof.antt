@@ -1,0 +1,97 @@
+-- `Controller::judged` meets its contract. Assumes nothing.
+use mathlib.Core.Path.{refl}
+use Rattle.units.proofs.Picked.{along}
+use Rattle.controller.specs.Step.{judgedPlan}
+use borrow.Author.Needs.{needs}
+use Rattle.controller.proofs.state.Controller.judged.Statement.{statement}
+use Rattle.controller.proofs.state.Controller.judged.Tie as tie
+
+enum-told : tie.Need-enum-told
+enum-told c = search needs
+
+enum-told-2 : tie.Need-enum-told-2
+enum-told-2 c = search needs
+
+enum-told-3 : tie.Need-enum-told-3
+enum-told-3 c = search needs
+
+enum-told-4 : tie.Need-enum-told-4
+enum-told-4 c = search needs
+
+enum-told-5 : tie.Need-enum-told-5
+enum-told-5 c = search needs
+
+enum-told-6 : tie.Need-enum-told-6
+enum-told-6 c = search needs
+
+enum-known-effect : tie.Need-enum-known-effect
+enum-known-effect c = search needs
+
+counted-requires : tie.Need-counted-requires
+counted-requires c κs = search needs
+
+enum-told-7 : tie.Need-enum-told-7
+enum-told-7 c = search needs
+
+enum-told-8 : tie.Need-enum-told-8
+enum-told-8 c = search needs
+
+returns : tie.Need-returns
+unfolding judgedPlan
+returns c = along (judgedPlan (c .before .before .args .numbers) (c .before .before .args .self) (c .before .before .args .plan)) (c .enum-told .given .1) (refl)
+
+returns-2 : tie.Need-returns-2
+unfolding judgedPlan
+returns-2 c = along (judgedPlan (c .before .before .args .numbers) (c .before .before .args .self) (c .before .before .args .plan)) (c .enum-told2 .given .1) (refl)
+
+returns-3 : tie.Need-returns-3
+unfolding judgedPlan
+returns-3 c = along (judgedPlan (c .before .before .args .numbers) (c .before .before .args .self) (c .before .before .args .plan)) (c .enum-told3 .given .1) (refl)
+
+returns-4 : tie.Need-returns-4
+unfolding judgedPlan
+returns-4 c = along (judgedPlan (c .before .before .args .numbers) (c .before .before .args .self) (c .before .before .args .plan)) (c .enum-told4 .given .1) (refl)
+
+returns-5 : tie.Need-returns-5
+unfolding judgedPlan
+returns-5 c = along (judgedPlan (c .before .before .args .numbers) (c .before .before .args .self) (c .before .before .args .plan)) (c .enum-told5 .given .1) (refl)
+
+returns-6 : tie.Need-returns-6
+unfolding judgedPlan
+returns-6 c = along (judgedPlan (c .before .before .args .numbers) (c .before .before .args .self) (c .before .before .args .plan)) (c .enum-told6 .given .1) (refl)
+
+returns-7 : tie.Need-returns-7
+unfolding judgedPlan
+returns-7 c = along (judgedPlan (c .before .before .before .before .args .numbers) (c .before .before .before .before .args .self) (c .before .before .before .before .args .plan)) (c .before .before .effect .given .1) (c .counted .ensures)
+
+returns-8 : tie.Need-returns-8
+unfolding judgedPlan
+returns-8 c = along (judgedPlan (c .before .before .args .numbers) (c .before .before .args .self) (c .before .before .args .plan)) (c .enum-told7 .given .1) (refl)
+
+returns-9 : tie.Need-returns-9
+unfolding judgedPlan
+returns-9 c = along (judgedPlan (c .before .before .args .numbers) (c .before .before .args .self) (c .before .before .args .plan)) (c .enum-told8 .given .1) (refl)
+
+pub judged-spec : {M : Type 1} → statement M
+judged-spec =
+    tie.close
+    (tie.spec
+    enum-told
+    enum-told-2
+    enum-told-3
+    enum-told-4
+    enum-told-5
+    enum-told-6
+    enum-known-effect
+    counted-requires
+    enum-told-7
+    enum-told-8
+    returns
+    returns-2
+    returns-3
+    returns-4
+    returns-5
+    returns-6
+    returns-7
+    returns-8
+    returns-9)

@@ -1,0 +1,19 @@
+-- `Controller::merge` meets its contract. Assumes nothing.
+use mathlib.Core.Path.{ap, _∙_}
+use lib.Bits.{bitOr}
+use Rattle.controller.specs.Effects.{holds}
+use borrow.Author.Needs.{needs}
+use Rattle.controller.proofs.state.Controller.merge.Statement.{statement}
+use Rattle.controller.proofs.state.Controller.merge.Tie as tie
+
+merge-readings-requires : tie.Need-merge-readings-requires
+merge-readings-requires c κs = search needs
+
+holding-requires : tie.Need-holding-requires
+holding-requires c κs = search needs
+
+returns : tie.Need-returns
+returns c = let a = c .before .before .before .before .args .self in c .holding .ensures ∙ ap (holds a (bitOr (a .held) (c .before .before .before .before .args .mask))) (c .before .before .merge-readings .ensures)
+
+pub merge-spec : {M : Type 1} → statement M
+merge-spec = tie.close (tie.spec merge-readings-requires holding-requires returns)

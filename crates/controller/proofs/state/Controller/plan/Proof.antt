@@ -1,0 +1,217 @@
+-- `Controller::plan` meets its contract. Assumes nothing.
+use mathlib.Core.Path.{ap, _∙_}
+use Rattle.units.proofs.Picked.{along}
+use Rattle.controller.specs.Step.{planned, votePlan}
+use Rattle.controller.specs.State.{briefOf}
+use Rattle.plan.specs.Readings.{planReading, planQuery, planReply}
+use Rattle.plan.specs.States.{planAdvert, planUpdate, planSetpoints}
+use Rattle.plan.specs.Timers.{planDue, planEnds, planVotingEnds}
+use Rattle.plan.specs.Votes.{planFloor, planDigest, judged}
+use Prim.Native.Nat.{ℕ}
+use Rattle.plan.specs.declared.brief.Brief.{Brief}
+use Rattle.vote.specs.declared.votes.Ballot.{Ballot}
+use borrow.Author.Needs.{needs}
+use Rattle.controller.proofs.state.Controller.plan.Statement.{statement}
+use Rattle.controller.proofs.state.Controller.plan.Tie as tie
+
+brief-requires : tie.Need-brief-requires
+brief-requires c κs = search needs
+
+enum-known-head : tie.Need-enum-known-head
+enum-known-head c = search needs
+
+reading-requires : tie.Need-reading-requires
+reading-requires c κs = search needs
+
+on-reading-requires : tie.Need-on-reading-requires
+on-reading-requires c κs = search needs
+
+enum-known-head-2 : tie.Need-enum-known-head-2
+enum-known-head-2 c = search needs
+
+on-query-requires : tie.Need-on-query-requires
+on-query-requires c κs = search needs
+
+enum-known-head-3 : tie.Need-enum-known-head-3
+enum-known-head-3 c = search needs
+
+clashes-requires : tie.Need-clashes-requires
+clashes-requires c κs = search needs
+
+on-reply-requires : tie.Need-on-reply-requires
+on-reply-requires c κs = search needs
+
+enum-known-head-4 : tie.Need-enum-known-head-4
+enum-known-head-4 c = search needs
+
+on-advert-requires : tie.Need-on-advert-requires
+on-advert-requires c κs = search needs
+
+enum-known-head-5 : tie.Need-enum-known-head-5
+enum-known-head-5 c = search needs
+
+holds-state-requires : tie.Need-holds-state-requires
+holds-state-requires c κs = search needs
+
+on-update-requires : tie.Need-on-update-requires
+on-update-requires c κs = search needs
+
+enum-known-head-6 : tie.Need-enum-known-head-6
+enum-known-head-6 c = search needs
+
+ballot-requires : tie.Need-ballot-requires
+ballot-requires c κs = search needs
+
+on-digest-requires : tie.Need-on-digest-requires
+on-digest-requires c κs = search needs
+
+judged-requires : tie.Need-judged-requires
+judged-requires c κs = search needs
+
+enum-known-head-7 : tie.Need-enum-known-head-7
+enum-known-head-7 c = search needs
+
+on-setpoints-requires : tie.Need-on-setpoints-requires
+on-setpoints-requires c κs = search needs
+
+enum-known-head-8 : tie.Need-enum-known-head-8
+enum-known-head-8 c = search needs
+
+on-due-requires : tie.Need-on-due-requires
+on-due-requires c κs = search needs
+
+enum-known-head-9 : tie.Need-enum-known-head-9
+enum-known-head-9 c = search needs
+
+on-collecting-ends-requires : tie.Need-on-collecting-ends-requires
+on-collecting-ends-requires c κs = search needs
+
+enum-known-head-10 : tie.Need-enum-known-head-10
+enum-known-head-10 c = search needs
+
+on-voting-ends-requires : tie.Need-on-voting-ends-requires
+on-voting-ends-requires c κs = search needs
+
+enum-known-head-11 : tie.Need-enum-known-head-11
+enum-known-head-11 c = search needs
+
+on-floor-requires : tie.Need-on-floor-requires
+on-floor-requires c κs = search needs
+
+judged-requires-2 : tie.Need-judged-requires-2
+judged-requires-2 c κs = search needs
+
+enum-known-head-12 : tie.Need-enum-known-head-12
+enum-known-head-12 c = search needs
+
+doing-requires : tie.Need-doing-requires
+doing-requires c κs = search needs
+
+enum-told : tie.Need-enum-told
+enum-told c = search needs
+
+refusal-requires : tie.Need-refusal-requires
+refusal-requires c κs = search needs
+
+returns : tie.Need-returns
+unfolding planned
+returns c = along (planned (c .before .before .before .before .before .before .before .before .args .numbers) (c .before .before .before .before .before .before .before .before .args .self) (c .before .before .before .before .before .before .before .before .args .message)) (c .before .before .before .head .given .1) (c .on-reading .ensures ∙ ap (λ (b : Brief). planReading b (c .before .reading .result) (c .before .before .before .head .given .0 .0) (c .before .before .before .head .given .0 .1 .0) (c .before .before .before .head .given .0 .1 .1 .0)) (c .before .before .before .before .before .brief .ensures) ∙ ap (λ (n : ℕ). planReading (briefOf (c .before .before .before .before .before .before .before .before .args .self)) n (c .before .before .before .head .given .0 .0) (c .before .before .before .head .given .0 .1 .0) (c .before .before .before .head .given .0 .1 .1 .0)) (c .before .reading .ensures))
+
+returns-2 : tie.Need-returns-2
+unfolding planned
+returns-2 c = along (planned (c .before .before .before .before .before .before .before .args .numbers) (c .before .before .before .before .before .before .before .args .self) (c .before .before .before .before .before .before .before .args .message)) (c .before .before .head2 .given .1) (c .on-query .ensures ∙ ap (λ (b : Brief). planQuery b (c .before .before .head2 .given .0 .0) (c .before .before .head2 .given .0 .1 .0) (c .before .before .head2 .given .0 .1 .1 .0)) (c .before .before .before .before .brief .ensures))
+
+returns-3 : tie.Need-returns-3
+unfolding planned
+returns-3 c = along (planned (c .before .before .before .before .before .before .before .before .args .numbers) (c .before .before .before .before .before .before .before .before .args .self) (c .before .before .before .before .before .before .before .before .args .message)) (c .before .before .before .head3 .given .1) (c .on-reply .ensures ∙ ap (λ (b : Brief). planReply b (c .before .before .before .head3 .given .0 .0) (c .before .before .before .head3 .given .0 .1 .0) (c .before .before .before .head3 .given .0 .1 .1 .0) (c .before .clashes .result)) (c .before .before .before .before .before .brief .ensures) ∙ ap (planReply (briefOf (c .before .before .before .before .before .before .before .before .args .self)) (c .before .before .before .head3 .given .0 .0) (c .before .before .before .head3 .given .0 .1 .0) (c .before .before .before .head3 .given .0 .1 .1 .0)) (c .before .clashes .ensures))
+
+returns-4 : tie.Need-returns-4
+unfolding planned
+returns-4 c = along (planned (c .before .before .before .before .before .before .before .args .numbers) (c .before .before .before .before .before .before .before .args .self) (c .before .before .before .before .before .before .before .args .message)) (c .before .before .head4 .given .1) (c .on-advert .ensures ∙ ap (λ (b : Brief). planAdvert b (c .before .before .head4 .given .0 .0) (c .before .before .head4 .given .0 .1 .0)) (c .before .before .before .before .brief .ensures))
+
+returns-5 : tie.Need-returns-5
+unfolding planned
+returns-5 c = along (planned (c .before .before .before .before .before .before .before .before .args .numbers) (c .before .before .before .before .before .before .before .before .args .self) (c .before .before .before .before .before .before .before .before .args .message)) (c .before .before .before .head5 .given .1) (c .on-update .ensures ∙ ap (λ (b : Brief). planUpdate b (c .before .before .before .head5 .given .0 .0) (c .before .before .before .head5 .given .0 .1 .0) (c .before .holds-state .result)) (c .before .before .before .before .before .brief .ensures) ∙ ap (planUpdate (briefOf (c .before .before .before .before .before .before .before .before .args .self)) (c .before .before .before .head5 .given .0 .0) (c .before .before .before .head5 .given .0 .1 .0)) (c .before .holds-state .ensures))
+
+returns-6 : tie.Need-returns-6
+unfolding planned
+returns-6 c = along (planned (c .before .before .before .before .before .before .before .before .before .args .numbers) (c .before .before .before .before .before .before .before .before .before .args .self) (c .before .before .before .before .before .before .before .before .before .args .message)) (c .before .before .before .before .head6 .given .1) (c .judged .ensures ∙ ap (votePlan (c .before .before .before .before .before .before .before .before .before .args .numbers) (c .before .before .before .before .before .before .before .before .before .args .self)) (c .before .on-digest .ensures ∙ ap (λ (b : Brief). planDigest b (c .before .before .ballot .result) (c .before .before .before .before .head6 .given .0 .0) (c .before .before .before .before .head6 .given .0 .1 .0) (c .before .before .before .before .head6 .given .0 .1 .1 .0)) (c .before .before .before .before .before .before .brief .ensures) ∙ ap (λ (x : Ballot). planDigest (briefOf (c .before .before .before .before .before .before .before .before .before .args .self)) x (c .before .before .before .before .head6 .given .0 .0) (c .before .before .before .before .head6 .given .0 .1 .0) (c .before .before .before .before .head6 .given .0 .1 .1 .0)) (c .before .before .ballot .ensures)))
+
+returns-7 : tie.Need-returns-7
+unfolding planned
+returns-7 c = along (planned (c .before .before .before .before .before .before .before .args .numbers) (c .before .before .before .before .before .before .before .args .self) (c .before .before .before .before .before .before .before .args .message)) (c .before .before .head7 .given .1) (c .on-setpoints .ensures ∙ ap (λ (b : Brief). planSetpoints b (c .before .before .head7 .given .0 .0)) (c .before .before .before .before .brief .ensures))
+
+returns-8 : tie.Need-returns-8
+unfolding planned
+returns-8 c = along (planned (c .before .before .before .before .before .before .before .args .numbers) (c .before .before .before .before .before .before .before .args .self) (c .before .before .before .before .before .before .before .args .message)) (c .before .before .head8 .given .1) (c .on-due .ensures ∙ ap (λ (b : Brief). planDue b (c .before .before .before .before .before .before .before .args .numbers .group .m) (c .before .before .head8 .given .0 .0)) (c .before .before .before .before .brief .ensures))
+
+returns-9 : tie.Need-returns-9
+unfolding planned
+returns-9 c = along (planned (c .before .before .before .before .before .before .before .args .numbers) (c .before .before .before .before .before .before .before .args .self) (c .before .before .before .before .before .before .before .args .message)) (c .before .before .head9 .given .1) (c .on-collecting-ends .ensures ∙ ap (λ (b : Brief). planEnds b (c .before .before .head9 .given .0 .0)) (c .before .before .before .before .brief .ensures))
+
+returns-10 : tie.Need-returns-10
+unfolding planned
+returns-10 c = along (planned (c .before .before .before .before .before .before .before .args .numbers) (c .before .before .before .before .before .before .before .args .self) (c .before .before .before .before .before .before .before .args .message)) (c .before .before .head10 .given .1) (c .on-voting-ends .ensures ∙ ap (λ (b : Brief). planVotingEnds b (c .before .before .head10 .given .0 .0)) (c .before .before .before .before .brief .ensures))
+
+returns-11 : tie.Need-returns-11
+unfolding planned
+returns-11 c = along (planned (c .before .before .before .before .before .before .before .before .args .numbers) (c .before .before .before .before .before .before .before .before .args .self) (c .before .before .before .before .before .before .before .before .args .message)) (c .before .before .before .head11 .given .1) (c .judged2 .ensures ∙ ap (votePlan (c .before .before .before .before .before .before .before .before .args .numbers) (c .before .before .before .before .before .before .before .before .args .self)) (c .before .on-floor .ensures ∙ ap (λ (b : Brief). planFloor b (c .before .before .before .head11 .given .0 .0)) (c .before .before .before .before .before .brief .ensures)))
+
+returns-12 : tie.Need-returns-12
+unfolding planned
+returns-12 c = along (planned (c .before .before .before .before .before .before .before .args .numbers) (c .before .before .before .before .before .before .before .args .self) (c .before .before .before .before .before .before .before .args .message)) (c .before .before .head12 .given .1) (c .doing .ensures)
+
+returns-13 : tie.Need-returns-13
+unfolding planned
+returns-13 c = along (planned (c .before .before .before .before .before .before .args .numbers) (c .before .before .before .before .before .before .args .self) (c .before .before .before .before .before .before .args .message)) (c .before .enum-told .given .1) (c .refusal .ensures)
+
+pub plan-spec : {M : Type 1} → statement M
+plan-spec =
+    tie.close
+    (tie.spec
+    brief-requires
+    enum-known-head
+    reading-requires
+    on-reading-requires
+    enum-known-head-2
+    on-query-requires
+    enum-known-head-3
+    clashes-requires
+    on-reply-requires
+    enum-known-head-4
+    on-advert-requires
+    enum-known-head-5
+    holds-state-requires
+    on-update-requires
+    enum-known-head-6
+    ballot-requires
+    on-digest-requires
+    judged-requires
+    enum-known-head-7
+    on-setpoints-requires
+    enum-known-head-8
+    on-due-requires
+    enum-known-head-9
+    on-collecting-ends-requires
+    enum-known-head-10
+    on-voting-ends-requires
+    enum-known-head-11
+    on-floor-requires
+    judged-requires-2
+    enum-known-head-12
+    doing-requires
+    enum-told
+    refusal-requires
+    returns
+    returns-2
+    returns-3
+    returns-4
+    returns-5
+    returns-6
+    returns-7
+    returns-8
+    returns-9
+    returns-10
+    returns-11
+    returns-12
+    returns-13)
