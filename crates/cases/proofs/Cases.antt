@@ -5,6 +5,7 @@ use mathlib.Core.Path.{_≡_, refl, ap, subst}
 use mathlib.Core.Bool.{Bool, true, false, _&&_}
 use mathlib.Core.List.{List, [], _∷_}
 use lib.Count.{ones}
+use lib.Ieee.{fits, ofInt, ofBits, toBits, lt, le, add, sub, mul, div}
 use Rattle.units.specs.declared.refusal.Refusal.{Refusal}
 use Rattle.units.specs.Every.{every}
 use Rattle.units.specs.Pick.{pick}
@@ -17,7 +18,12 @@ use Rattle.vote.specs.Vote.{Answers, seatFits, seatsFit, votesFit}
 use Rattle.vote.specs.Decision.{tallyOf, strengthOf, largest, otherThan, outsider, missingOf, heldOff, rivalOf, settledAt, settled, decision}
 use Rattle.vote.proofs.Order.{same-true}
 use Rattle.vote.proofs.Answer.{decision-exact}
-use Rattle.cases.specs.Table.{Row, judged, votesOf, Holds, Each, table}
+use Rattle.floats.specs.Bits.{whole, bitsOf, sameFloat}
+use Rattle.floats.specs.Ranges.{sameEstimate}
+use Rattle.floats.proofs.Limits.{same-is}
+use Rattle.floats.proofs.Places.{same-estimate-is}
+use Rattle.filter.specs.Run.{atMost, limited, grown, measured, gain, moved, shrunk, outcome}
+use Rattle.cases.specs.Table.{RunCase, Part, chosen, left, Row, judged, run, votesOf, numbered, spelt, carried, Measures, Holds, Each, table}
 
 -- ---- the test
 
@@ -32,8 +38,16 @@ sameDecision (Decided d) (Refused b) = false
 sameDecision (Decided d) Undecided = false
 sameDecision (Decided d) (Decided e) = same d e
 
+measures : RunCase → Part → Bool
+measures c (chosen z) = sameFloat (measured (c .raw) (c .factor)) (whole z)
+measures c left = true
+
+leaves : RunCase → Bool
+leaves c = sameEstimate (carried c) (numbered (c .newX) (c .newVariance)) && sameEstimate (carried c) (spelt (c .xBits) (c .varianceBits))
+
 test : Row → Bool
 test (judged c) = sameDecision (decision (votesOf c)) (c .verdict)
+test (run c) = measures c (c .part) && leaves c
 
 testEach : List Row → Bool
 testEach [] = true
@@ -53,16 +67,32 @@ same-decision (Decided d) (Refused b) h = let z : _≡_ {A = ℕ} 0 1 = cc in ab
 same-decision (Decided d) Undecided h = let z : _≡_ {A = ℕ} 0 1 = cc in absurd (omega arith)
 same-decision (Decided d) (Decided e) h = ap Decided (same-true d e h)
 
+measures-is : (c : RunCase) (p : Part) → measures c p ≡ true → Measures c p
+unfolding measures
+measures-is c (chosen z) h = same-is (measured (c .raw) (c .factor)) (whole z) h
+measures-is c left h = tt
+
+leaves-number : (c : RunCase) → leaves c ≡ true → carried c ≡ numbered (c .newX) (c .newVariance)
+unfolding leaves
+leaves-number c h = same-estimate-is (carried c) (numbered (c .newX) (c .newVariance)) (and-left _ (sameEstimate (carried c) (spelt (c .xBits) (c .varianceBits))) h)
+
+leaves-bits : (c : RunCase) → leaves c ≡ true → carried c ≡ spelt (c .xBits) (c .varianceBits)
+unfolding leaves
+leaves-bits c h = same-estimate-is (carried c) (spelt (c .xBits) (c .varianceBits)) (and-right (sameEstimate (carried c) (numbered (c .newX) (c .newVariance))) _ h)
+
 holds : (r : Row) → test r ≡ true → Holds r
 unfolding test
 holds (judged c) h = subst (Answers (votesOf c)) (same-decision (decision (votesOf c)) (c .verdict) h) (decision-exact (votesOf c))
+holds (run c) h =
+    let a : leaves c ≡ true = and-right (measures c (c .part)) (leaves c) h in
+    (measures-is c (c .part) (and-left (measures c (c .part)) (leaves c) h), leaves-number c a, leaves-bits c a)
 
 each : (rs : List Row) → testEach rs ≡ true → Each rs
 unfolding testEach
 each [] h = tt
 each (r ∷ rs) h = (holds r (and-left (test r) (testEach rs) h), each rs (and-right (test r) (testEach rs) h))
 
--- v1 to v12
+-- v1 to v12, c1 and c2
 pub cases : Each table
-unfolding table testEach test sameDecision decision settled settledAt rivalOf heldOff missingOf outsider otherThan largest strengthOf tallyOf votesFit seatsFit seatFits groupFits every legal same rank unrank full least ones pick
+unfolding table testEach test sameDecision decision settled settledAt rivalOf heldOff missingOf outsider otherThan largest strengthOf tallyOf votesFit seatsFit seatFits groupFits every legal same rank unrank full least ones pick measures leaves sameEstimate sameFloat bitsOf atMost limited grown measured gain moved shrunk outcome fits ofInt ofBits toBits lt le add sub mul div
 cases = each table refl

@@ -1,2 +1,3 @@
--- The table of document 01's cases.
+-- The table of document 01's cases, and the round of its session.
 pub mod Table
+pub mod Session

@@ -1,1 +1,1 @@
-// Document 01's cases. All of this crate is in specs/Table.antt, the table, and in proofs/Cases.antt, the statement that every row of it holds.
+// Document 01's cases: specs/Table.antt is the table, proofs/Cases.antt the statement that every row of it holds. Beside them its session, computed.
