@@ -2,7 +2,7 @@
 ghost use mathlib.Core.Path.{_≡_};
 ghost use lib.ListN.{getD};
 ghost use Rattle.floats.specs.Ranges.{sameState};
-ghost use Rattle.controller.specs.Step.{clashing, decided, inputsFit, judgedIn, judgedPlan, planned, stepped};
+ghost use Rattle.controller.specs.Step.{carriedOut, clashing, decided, inputsFit, judgedIn, judgedPlan, planned, stepped};
 use crate::apply::put_vote;
 use crate::merge::readings_agree;
 use crate::state::Controller;
@@ -187,23 +187,30 @@ impl Controller {
         numbers.in_range() & self.in_range(numbers) & message.in_range(numbers.group)
     }
 
+    // A step on inputs that are in range: what the message leads to, carried out. Unchecked: `step` stands above it.
+    pub fn advance(self, numbers: Numbers, message: Message) -> Answer
+        ensures { λ r. ⌜ r ≡ carriedOut numbers self message (planned numbers self message (message .head)) ⌝ }
+    {
+        let plan = self.plan(numbers, message);
+        let first = plan.first;
+        let second = plan.second;
+        let verdict = plan.verdict;
+        let effect = plan.effect;
+        let next = self.apply(numbers, message, effect);
+        Answer {
+            next,
+            first,
+            second,
+            verdict,
+        }
+    }
+
     // One step: the state goes in, and comes back with what to send.
     pub fn step(self, numbers: Numbers, message: Message) -> Answer
         ensures { λ r. ⌜ r ≡ stepped numbers self message ⌝ }
     {
         if self.inputs_in_range(numbers, message) {
-            let plan = self.plan(numbers, message);
-            let first = plan.first;
-            let second = plan.second;
-            let verdict = plan.verdict;
-            let effect = plan.effect;
-            let next = self.apply(numbers, message, effect);
-            Answer {
-                next,
-                first,
-                second,
-                verdict,
-            }
+            self.advance(numbers, message)
         } else {
             Answer {
                 next: self,
