@@ -1,0 +1,19 @@
+-- The laws of `lines` that belong to no one function.
+pub mod Rows
+pub mod Columns
+mod Walking
+mod Making
+mod Stages
+mod Openings
+mod Adding
+mod Putting
+mod Sending
+mod Settlings
+mod Runs
+pub mod Spelled
+pub mod Wire
+mod Arrays
+mod Quantities
+pub mod Meaning
+pub mod Saying
+pub mod RoundTrip

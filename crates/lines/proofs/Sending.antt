@@ -1,0 +1,134 @@
+-- What `numbers_of`, `write` and `write_refusal` need. Assumes nothing.
+use Prim.Native.Nat.{ℕ, _+_, _*_, _≤_}
+use mathlib.Core.Path.{_≡_, refl, sym, ap, _∙_}
+use mathlib.Core.List.{List, [], _∷_, _++_, append-assoc}
+use mathlib.Core.Bool.{Bool, true, false, not, _&&_}
+use native.Mathlib.Omega.{arith}
+use lib.Dec.{leb}
+use lib.ListN.{length, getD, take}
+use borrow.Author.Tests.{leb-true, not-true, not-false}
+use Rattle.units.specs.declared.refusal.Refusal.{Refusal}
+use Rattle.units.specs.declared.refusal.Refusal.the-variants.{Range}
+use Rattle.units.specs.declared.settings.Group.{Group}
+use Rattle.units.specs.Pick.{pick}
+use Rattle.units.specs.Refusal.{numberOf}
+use Rattle.units.specs.Settings.{groupFits}
+use Rattle.units.proofs.Every.{and-left, and-right}
+use Rattle.floats.specs.Ranges.{stateFits, targetsFit}
+use Rattle.message.specs.declared.head.Carried.{Carried}
+use Rattle.message.specs.declared.value.Message.{Message}
+use Rattle.message.specs.Head.{carried, headFits}
+use Rattle.message.specs.Message.{messageFits}
+use Rattle.message.specs.Readings.{readingsFit}
+use Rattle.lines.specs.declared.kind.Kind.{Kind}
+use Rattle.lines.specs.declared.kind.Kind.the-variants.{Refused as OfRefused}
+use Rattle.lines.specs.declared.numbers.Numbers.{Numbers}
+use Rattle.lines.specs.declared.write.Written.{Written}
+use Rattle.lines.specs.declared.write.Written.the-variants.{Done, Refused}
+use Rattle.lines.specs.Lists.{joined}
+use Rattle.lines.specs.Values.{kindIs, headValues, rawOf, floatsOf, targetOf, valuesOf}
+use Rattle.lines.specs.Writing.{lineOf, spellLine, refusalLine, answerOf, bufferOf, writeAnswer, writeBuffer}
+use Rattle.lines.proofs.Adding.{Roomy, roomy}
+
+-- WHAT A MESSAGE IN RANGE HAS IN RANGE
+pub group-runs : (s : Group) → groupFits s ≡ true → (1 ≤ s .m) × (s .m ≤ 16)
+unfolding groupFits
+group-runs s e =
+    let r = and-right (leb 1 (s .g) && leb (s .g) 7) (leb 1 (s .m) && leb (s .m) 16) e in
+    (leb-true 1 (s .m) (and-left (leb 1 (s .m)) (leb (s .m) 16) r), leb-true (s .m) 16 (and-right (leb 1 (s .m)) (leb (s .m) 16) r))
+
+pub group-senders : (s : Group) → groupFits s ≡ true → (1 ≤ s .g) × (s .g ≤ 7)
+unfolding groupFits
+group-senders s e =
+    let r = and-left (leb 1 (s .g) && leb (s .g) 7) (leb 1 (s .m) && leb (s .m) 16) e in
+    (leb-true 1 (s .g) (and-left (leb 1 (s .g)) (leb (s .g) 7) r), leb-true (s .g) 7 (and-right (leb 1 (s .g)) (leb (s .g) 7) r))
+
+pub record Fits (s : Group) (a : Message) : Type 0 where
+  pub group : groupFits s ≡ true
+  pub head : headFits s (a .head) ≡ true
+  pub readings : readingsFit (carried s (a .head) .readings) (a .readings) ≡ true
+  pub estimates : stateFits (carried s (a .head) .estimates) (a .estimates) ≡ true
+  pub targets : targetsFit (carried s (a .head) .targets) (a .targets) ≡ true
+
+pub message-fits : (s : Group) (a : Message) → messageFits s a ≡ true → Fits s a
+unfolding messageFits
+message-fits s a e =
+    let c = carried s (a .head) in
+    let G = groupFits s in
+    let H = headFits s (a .head) in
+    let R = readingsFit (c .readings) (a .readings) in
+    let E = stateFits (c .estimates) (a .estimates) in
+    let T = targetsFit (c .targets) (a .targets) in
+    let e₃ = and-left (G && H && R && E) T e in
+    let e₂ = and-left (G && H && R) E e₃ in
+    let e₁ = and-left (G && H) R e₂ in
+    record {
+      group = and-left G H e₁;
+      head = and-right G H e₁;
+      readings = and-right (G && H) R e₂;
+      estimates = and-right (G && H && R) E e₃;
+      targets = and-right (G && H && R && E) T e;
+    }
+
+-- `numbers_of`
+module _ (s : Group) (a : Message) (fit : messageFits s a ≡ true) (c : Carried) (ce : c ≡ carried s (a .head)) where
+  room : Roomy s (a .head) (a .readings)
+  room = roomy s (a .head) (a .readings) (group-runs s (message-fits s a fit .group) .1)
+
+  estimates-few : c .estimates ≤ 16
+  estimates-few = rw ce (room .runs)
+
+  targets-few : c .targets ≤ 16
+  targets-few = rw ce (room .shares)
+
+  all-few : length (headValues (a .head) ++ joined (rawOf (c .readings) (a .readings)) 16) + 2 * c .estimates + c .targets ≤ 34
+  all-few = rw ce (room .all)
+
+  module _ (h : Numbers) (he : (h .n ≡ length (headValues (a .head))) × (take (h .n) (h .v) ≡ headValues (a .head)) × (length (h .v) ≡ 34)) where
+    pub head-few : (h .n ≤ 4) × (length (h .v) ≡ 34)
+    head-few = (let l = room .head in let e = he .0 in omega arith, he .2)
+
+    module _ (r : Numbers) (re : (r .n ≡ length (take (h .n) (h .v) ++ joined (rawOf (c .readings) (a .readings)) 16)) × (take (r .n) (r .v) ≡ take (h .n) (h .v) ++ joined (rawOf (c .readings) (a .readings)) 16) × (length (r .v) ≡ 34)) where
+      raws-count : r .n ≡ length (headValues (a .head) ++ joined (rawOf (c .readings) (a .readings)) 16)
+      raws-count = re .0 ∙ rw (he .1)
+
+      pub raws-few : (r .n + 2 * c .estimates ≤ 34) × (c .estimates ≤ 16) × (length (r .v) ≡ 34)
+      raws-few = (let l = all-few in let e = raws-count in omega arith, estimates-few, re .2)
+
+      module _ (x : Numbers) (xe : (x .n ≡ r .n + 2 * c .estimates) × (take (x .n) (x .v) ≡ take (r .n) (r .v) ++ joined (floatsOf (a .estimates)) (c .estimates)) × (length (x .v) ≡ 34)) where
+        pub floats-few : (x .n + c .targets ≤ 34) × (c .targets ≤ 16) × (length (x .v) ≡ 34)
+        floats-few = (let l = all-few in let e = raws-count in let f = xe .0 in omega arith, targets-few, xe .2)
+
+        pub all-numbers : (y : Numbers) → (y .n ≡ x .n + c .targets) × (take (y .n) (y .v) ≡ take (x .n) (x .v) ++ joined (targetOf (a .targets)) (c .targets)) × (length (y .v) ≡ 34)
+            → (take (y .n) (y .v) ≡ valuesOf s a) × (y .n ≤ 34) × (length (y .v) ≡ 34)
+        unfolding valuesOf
+        all-numbers y ye =
+            let R = joined (rawOf (c .readings) (a .readings)) 16 in
+            let E = joined (floatsOf (a .estimates)) (c .estimates) in
+            let T = joined (targetOf (a .targets)) (c .targets) in
+            let t : take (y .n) (y .v) ≡ headValues (a .head) ++ (R ++ (E ++ T)) =
+            ye .1 ∙ ap (λ (l : List ℕ). l ++ T) (xe .1 ∙ ap (λ (l : List ℕ). l ++ E) (re .1 ∙ ap (λ (l : List ℕ). l ++ R) (he .1)))
+            ∙ append-assoc (headValues (a .head) ++ R) E T ∙ append-assoc (headValues (a .head)) R (E ++ T) in
+            (rw ce at t, let l = all-few in let e = raws-count in let f = xe .0 in let g = ye .0 in omega arith, ye .2)
+
+-- `write`
+module _ (s : Group) (a : Message) (b : Bool) (be : b ≡ messageFits s a) (buf : List ℕ) where
+  pub write-range : not b ≡ true → (Refused Range ≡ writeAnswer (messageFits s a) (spellLine s a) buf) × (buf ≡ writeBuffer (messageFits s a) (spellLine s a) buf)
+  unfolding writeAnswer writeBuffer pick
+  write-range t = rw (← be, not-true b t) (refl, refl)
+
+  pub write-fits : not b ≡ false → messageFits s a ≡ true
+  write-fits t = sym be ∙ not-false b t
+
+  pub write-put : not b ≡ false → (k : Kind) (vs : List ℕ) (r : Written) (d : List ℕ) → k ≡ kindIs (a .head) → vs ≡ valuesOf s a
+      → (r ≡ answerOf (lineOf k vs) buf) × (d ≡ bufferOf (lineOf k vs) buf)
+      → (r ≡ writeAnswer (messageFits s a) (spellLine s a) buf) × (d ≡ writeBuffer (messageFits s a) (spellLine s a) buf)
+  unfolding writeAnswer writeBuffer spellLine pick
+  write-put t k vs r d ke ve h = rw (← be, not-false b t, ← ke, ← ve) h
+
+-- `write_refusal`
+pub refusal-put : (why : Refusal) (n : ℕ) (vs buf : List ℕ) (r : Written) (d : List ℕ) → n ≡ numberOf why → vs ≡ n ∷ []
+    → (r ≡ answerOf (lineOf OfRefused vs) buf) × (d ≡ bufferOf (lineOf OfRefused vs) buf)
+    → (r ≡ answerOf (refusalLine why) buf) × (d ≡ bufferOf (refusalLine why) buf)
+unfolding refusalLine
+refusal-put why n vs buf r d ne ve h = rw (← ne, ← ve) h

@@ -1,0 +1,213 @@
+// The numbers of a message's line, in the order of the line.
+ghost use mathlib.Core.Path.{_≡_};
+ghost use mathlib.Core.List.{List, [], _∷_, _++_};
+ghost use Prim.Native.Nat.{_+_, _*_, _≤_};
+ghost use lib.ListN.{length, take};
+ghost use Rattle.message.specs.Message.{messageFits};
+ghost use Rattle.lines.specs.Lists.{joined};
+ghost use Rattle.lines.specs.Values.{floatsOf, headValues, kindIs, rawOf, targetOf, valuesOf};
+ghost use mathlib.Core.Bool.{true};
+use crate::kind::Kind;
+use floats::bits::bits_of;
+use message::Head;
+use message::Message;
+use units::Estimate;
+use units::Group;
+use units::limits::RUNS;
+use units::mask::has;
+
+// The first n of these numbers count.
+pub struct Numbers {
+    pub n: usize,
+    pub v: [u64; 34],
+}
+
+pub(crate) fn kind_is(head: Head) -> Kind
+    ensures { λ r. ⌜ r ≡ kindIs head ⌝ }
+{
+    match head {
+        Head::Reading {
+            label: _,
+            run: _,
+            raw: _,
+        } => Kind::Reading,
+        Head::Query {
+            sender: _,
+            label: _,
+            mask: _,
+        } => Kind::Query,
+        Head::Reply {
+            sender: _,
+            label: _,
+            mask: _,
+        } => Kind::Reply,
+        Head::Advert {
+            sender: _,
+            state: _,
+        } => Kind::Advert,
+        Head::Update {
+            sender: _,
+            state: _,
+        } => Kind::Update,
+        Head::Vote {
+            sender: _,
+            label: _,
+            digest: _,
+        } => Kind::Vote,
+        Head::Setpoints {
+            sender: _,
+            label: _,
+            digest: _,
+        } => Kind::Setpoints,
+        Head::Due { label: _ } => Kind::Due,
+        Head::CollectingEnds { label: _ } => Kind::CollectingEnds,
+        Head::VotingEnds { label: _ } => Kind::VotingEnds,
+        Head::Floor { label: _ } => Kind::Floor,
+        Head::Start { own: _, floor: _ } => Kind::Start,
+        Head::Refused { number: _ } => Kind::Refused,
+    }
+}
+
+fn wide(n: u32) -> u64
+    ensures { λ r. ⌜ r ≡ n ⌝ }
+{
+    n as u64
+}
+
+fn long(n: usize) -> u64
+    ensures { λ r. ⌜ r ≡ n ⌝ }
+{
+    n as u64
+}
+
+// The first n of four numbers.
+pub(crate) fn four(n: usize, a: u64, b: u64, c: u64, d: u64) -> Numbers
+    requires { ⌜ n ≤ 4 ⌝ }
+    ensures { λ r. ⌜ (r .n ≡ n) × (take n (r .v) ≡ take n (a ∷ b ∷ c ∷ d ∷ [])) × (length (r .v) ≡ 34) ⌝ }
+{
+    let mut v = [0u64; 34];
+    v[0] = a;
+    v[1] = b;
+    v[2] = c;
+    v[3] = d;
+    Numbers { n, v }
+}
+
+// The numbers of a head.
+fn head_numbers(head: Head) -> Numbers
+    ensures { λ r. ⌜ (r .n ≡ length (headValues head)) × (take (r .n) (r .v) ≡ headValues head) × (length (r .v) ≡ 34) ⌝ }
+{
+    match head {
+        Head::Reading { label, run, raw } => four(3, wide(label.0), long(run), wide(raw), 0),
+        Head::Query {
+            sender,
+            label,
+            mask,
+        } => four(3, long(sender), wide(label.0), wide(mask), 0),
+        Head::Reply {
+            sender,
+            label,
+            mask,
+        } => four(3, long(sender), wide(label.0), wide(mask), 0),
+        Head::Advert { sender, state } => four(2, long(sender), wide(state.0), 0, 0),
+        Head::Update { sender, state } => four(2, long(sender), wide(state.0), 0, 0),
+        Head::Vote {
+            sender,
+            label,
+            digest,
+        } => four(
+            4,
+            long(sender),
+            wide(label.0),
+            wide(digest.state.0),
+            wide(digest.mask),
+        ),
+        Head::Setpoints {
+            sender,
+            label,
+            digest,
+        } => four(
+            4,
+            long(sender),
+            wide(label.0),
+            wide(digest.state.0),
+            wide(digest.mask),
+        ),
+        Head::Due { label } => four(1, wide(label.0), 0, 0, 0),
+        Head::CollectingEnds { label } => four(1, wide(label.0), 0, 0, 0),
+        Head::VotingEnds { label } => four(1, wide(label.0), 0, 0, 0),
+        Head::Floor { label } => four(1, wide(label.0), 0, 0, 0),
+        Head::Start { own, floor } => four(2, long(own), wide(floor.0), 0, 0),
+        Head::Refused { number } => four(1, wide(number), 0, 0, 0),
+    }
+}
+
+// Adds the readings of a mask's runs, lowest run first.
+fn with_readings(so: Numbers, mask: u32, readings: [u32; 16]) -> Numbers
+    requires { ⌜ (so .n ≤ 4) × (length (so .v) ≡ 34) ⌝ }
+    ensures { λ r. ⌜ (r .n ≡ length (take (so .n) (so .v) ++ joined (rawOf mask readings) 16)) × (take (r .n) (r .v) ≡ take (so .n) (so .v) ++ joined (rawOf mask readings) 16) × (length (r .v) ≡ 34) ⌝ }
+{
+    if mask == 0 {
+        return so;
+    }
+    let mut v = so.v;
+    let mut at = so.n;
+    let mut i: usize = 0;
+    while i < RUNS {
+        if has(mask, i) {
+            v[at] = wide(readings[i]);
+            at += 1;
+        }
+        i += 1;
+    }
+    Numbers { n: at, v }
+}
+
+// Adds the floats of m runs.
+fn with_estimates(so: Numbers, m: usize, estimates: [Estimate; 16]) -> Numbers
+    requires { ⌜ (so .n + 2 * m ≤ 34) × (m ≤ 16) × (length (so .v) ≡ 34) ⌝ }
+    ensures { λ r. ⌜ (r .n ≡ so .n + 2 * m) × (take (r .n) (r .v) ≡ take (so .n) (so .v) ++ joined (floatsOf estimates) m) × (length (r .v) ≡ 34) ⌝ }
+{
+    let mut v = so.v;
+    let mut at = so.n;
+    let mut i: usize = 0;
+    while i < m {
+        let e = estimates[i];
+        v[at] = bits_of(e.x);
+        v[at + 1] = bits_of(e.variance);
+        at += 2;
+        i += 1;
+    }
+    Numbers { n: at, v }
+}
+
+// Adds the targets of m runs.
+fn with_targets(so: Numbers, m: usize, targets: [f64; 16]) -> Numbers
+    requires { ⌜ (so .n + m ≤ 34) × (m ≤ 16) × (length (so .v) ≡ 34) ⌝ }
+    ensures { λ r. ⌜ (r .n ≡ so .n + m) × (take (r .n) (r .v) ≡ take (so .n) (so .v) ++ joined (targetOf targets) m) × (length (r .v) ≡ 34) ⌝ }
+{
+    let mut v = so.v;
+    let mut at = so.n;
+    let mut i: usize = 0;
+    while i < m {
+        v[at] = bits_of(targets[i]);
+        at += 1;
+        i += 1;
+    }
+    Numbers { n: at, v }
+}
+
+// All numbers of a message in range.
+pub(crate) fn numbers_of(message: Message, group: Group) -> Numbers
+    requires { ⌜ messageFits group message ≡ true ⌝ }
+    ensures { λ r. ⌜ (take (r .n) (r .v) ≡ valuesOf group message) × (r .n ≤ 34) × (length (r .v) ≡ 34) ⌝ }
+{
+    let head = message.head;
+    let readings = message.readings;
+    let estimates = message.estimates;
+    let targets = message.targets;
+    let carried = head.carries(group);
+    let first = with_readings(head_numbers(head), carried.readings, readings);
+    let second = with_estimates(first, carried.estimates, estimates);
+    with_targets(second, carried.targets, targets)
+}

@@ -1,0 +1,191 @@
+// A message from the numbers of its line.
+ghost use mathlib.Core.Path.{_≡_};
+ghost use Prim.Native.Nat.{_≤_};
+ghost use Rattle.floats.specs.Bits.{floatOf};
+ghost use Rattle.lines.specs.Lists.{column};
+ghost use Rattle.lines.specs.Values.{estimateIn, headOf, messageOf, messageWith, pickWord, readingIn, targetIn, tally, word};
+use crate::kind::Kind;
+use crate::table::runs_of;
+use floats::bits::float_of;
+use message::Head;
+use message::Message;
+use units::Estimate;
+use units::Group;
+use units::RoundLabel;
+use units::StateLabel;
+use units::limits::RUNS;
+use units::mask::has;
+use vote::Digest;
+
+pub(crate) fn narrow(n: u64) -> u32
+    ensures { λ r. ⌜ r ≡ word n ⌝ }
+{
+    (n % 4294967296) as u32
+}
+
+fn digest_of(state: u64, mask: u64) -> Digest
+    ensures { λ r. ⌜ r ≡ record { mask = word mask; state = record { 0 = word state } } ⌝ }
+{
+    Digest {
+        mask: narrow(mask),
+        state: StateLabel(narrow(state)),
+    }
+}
+
+fn round_of(n: u64) -> RoundLabel
+    ensures { λ r. ⌜ r ≡ record { 0 = word n } ⌝ }
+{
+    RoundLabel(narrow(n))
+}
+
+fn state_of(n: u64) -> StateLabel
+    ensures { λ r. ⌜ r ≡ record { 0 = word n } ⌝ }
+{
+    StateLabel(narrow(n))
+}
+
+// The head of a line that begins with these numbers.
+fn head_of(kind: Kind, a: u64, b: u64, c: u64, d: u64) -> Head
+    ensures { λ r. ⌜ r ≡ headOf kind a b c d ⌝ }
+{
+    match kind {
+        Kind::Reading => Head::Reading {
+            label: round_of(a),
+            run: b as usize,
+            raw: narrow(c),
+        },
+        Kind::Query => Head::Query {
+            sender: a as usize,
+            label: round_of(b),
+            mask: narrow(c),
+        },
+        Kind::Reply => Head::Reply {
+            sender: a as usize,
+            label: round_of(b),
+            mask: narrow(c),
+        },
+        Kind::Advert => Head::Advert {
+            sender: a as usize,
+            state: state_of(b),
+        },
+        Kind::Update => Head::Update {
+            sender: a as usize,
+            state: state_of(b),
+        },
+        Kind::Vote => Head::Vote {
+            sender: a as usize,
+            label: round_of(b),
+            digest: digest_of(c, d),
+        },
+        Kind::Setpoints => Head::Setpoints {
+            sender: a as usize,
+            label: round_of(b),
+            digest: digest_of(c, d),
+        },
+        Kind::Due => Head::Due { label: round_of(a) },
+        Kind::CollectingEnds => Head::CollectingEnds { label: round_of(a) },
+        Kind::VotingEnds => Head::VotingEnds { label: round_of(a) },
+        Kind::Floor => Head::Floor { label: round_of(a) },
+        Kind::Start => Head::Start {
+            own: a as usize,
+            floor: round_of(b),
+        },
+        Kind::Refused => Head::Refused { number: narrow(a) },
+        Kind::Sizes => Head::Refused { number: 3 },
+        Kind::Filter => Head::Refused { number: 3 },
+        Kind::Run => Head::Refused { number: 3 },
+    }
+}
+
+fn raw_where(here: bool, n: u64) -> u32
+    ensures { λ r. ⌜ r ≡ pickWord here n ⌝ }
+{
+    if here { narrow(n) } else { 0 }
+}
+
+fn one_more(here: bool, n: usize) -> usize
+    requires { ⌜ n ≤ 34 ⌝ }
+    ensures { λ r. ⌜ r ≡ tally here n ⌝ }
+{
+    if here { n + 1 } else { n }
+}
+
+// The readings by run: one for each set bit, from place 3 on.
+fn readings_in(mask: u32, v: &[u64; 34]) -> [u32; 16]
+    ensures { λ r. ⌜ r ≡ column (readingIn mask (now (v .entry))) 16 ⌝ }
+{
+    let mut out = [0u32; 16];
+    if mask == 0 {
+        return out;
+    }
+    let mut at: usize = 3;
+    let mut i: usize = 0;
+    while i < RUNS {
+        let here = has(mask, i);
+        let n = v[at];
+        out[i] = raw_where(here, n);
+        at = one_more(here, at);
+        i += 1;
+    }
+    out
+}
+
+fn estimate_of(x: u64, variance: u64) -> Estimate
+    ensures { λ r. ⌜ r ≡ record { x = floatOf x; variance = floatOf variance } ⌝ }
+{
+    Estimate {
+        x: float_of(x),
+        variance: float_of(variance),
+    }
+}
+
+// The estimates of n runs, two places each, from place 2 on.
+fn estimates_in(n: usize, v: &[u64; 34]) -> [Estimate; 16]
+    ensures { λ r. ⌜ r ≡ column (estimateIn n (now (v .entry))) 16 ⌝ }
+{
+    let blank = Estimate {
+        x: 0.0,
+        variance: 0.0,
+    };
+    let mut out = [blank; 16];
+    let runs = runs_of(n);
+    let mut i: usize = 0;
+    while i < runs {
+        let x = v[2 + 2 * i];
+        let variance = v[3 + 2 * i];
+        out[i] = estimate_of(x, variance);
+        i += 1;
+    }
+    out
+}
+
+// The targets of n runs, from place 4 on.
+fn targets_in(n: usize, v: &[u64; 34]) -> [f64; 16]
+    ensures { λ r. ⌜ r ≡ column (targetIn n (now (v .entry))) 16 ⌝ }
+{
+    let mut out = [0.0f64; 16];
+    let runs = runs_of(n);
+    let mut i: usize = 0;
+    while i < runs {
+        let target = v[4 + i];
+        out[i] = float_of(target);
+        i += 1;
+    }
+    out
+}
+
+pub(crate) fn message_of(kind: Kind, group: Group, v: &[u64; 34]) -> Message
+    ensures { λ r. ⌜ r ≡ messageOf group kind (now (v .entry)) ⌝ }
+{
+    let head = head_of(kind, v[0], v[1], v[2], v[3]);
+    let carried = head.carries(group);
+    let readings = readings_in(carried.readings, v);
+    let estimates = estimates_in(carried.estimates, v);
+    let targets = targets_in(carried.targets, v);
+    Message {
+        head,
+        readings,
+        estimates,
+        targets,
+    }
+}

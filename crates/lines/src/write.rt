@@ -1,0 +1,97 @@
+// THE WRITER: a message's line straight into a lent buffer.
+ghost use mathlib.Core.Path.{_≡_};
+ghost use mathlib.Core.List.{List, [], _∷_, _++_};
+ghost use Prim.Native.Nat.{_+_, _*_, _≤_};
+ghost use lib.ListN.{length, take};
+ghost use lib.Seq.{sets};
+ghost use Rattle.fields.specs.Put.{written};
+ghost use Rattle.fields.specs.Text.{tabbed};
+ghost use Rattle.fields.specs.declared.spelling.Spelling.{Spelling};
+ghost use Rattle.message.specs.Message.{messageFits};
+ghost use Rattle.lines.specs.Writing.{answerOf, bufferOf, lineOf, refusalLine, spellLine, textsTo, writeAnswer, writeBuffer};
+use crate::kind::Kind;
+use crate::numbers::kind_is;
+use crate::numbers::numbers_of;
+use crate::table::quantity_at;
+use fields::put_at;
+use fields::text::LINE_FEED;
+use fields::text::TAB;
+use fields::width;
+use message::Message;
+use units::Group;
+use units::Refusal;
+
+pub enum Written {
+    Done { len: usize },
+    Refused(Refusal),
+}
+
+// The bytes of the first n numbers, each with its tab.
+fn widths(kind: Kind, v: &[u64; 34], n: usize) -> usize
+    requires { ⌜ n ≤ 34 ⌝ }
+    ensures { λ r. ⌜ (r ≡ length (tabbed (textsTo kind (now (v .entry)) n))) × (r ≤ 17 * n) ⌝ }
+{
+    let mut sum: usize = 0;
+    let mut k: usize = 0;
+    while k < n {
+        let value = v[k];
+        sum += 1 + width(quantity_at(kind, k).spelling(), value);
+        k += 1;
+    }
+    sum
+}
+
+// Puts the first n numbers, each after its tab, from place 1 on.
+fn put_numbers(buf: &mut [u8], kind: Kind, v: &[u64; 34], n: usize) -> usize
+    requires { ⌜ (n ≤ 34) × (1 + length (tabbed (textsTo kind (now v) n)) ≤ length (now buf)) ⌝ }
+    ensures { λ r. ⌜ (r ≡ 1 + length (tabbed (textsTo kind (now (v .entry)) n))) × (now (buf .exit) ≡ sets (now (buf .entry)) 1 (tabbed (textsTo kind (now (v .entry)) n))) ⌝ }
+{
+    let mut at: usize = 1;
+    let mut k: usize = 0;
+    while k < n {
+        let value = v[k];
+        let spelling = quantity_at(kind, k).spelling();
+        buf[at] = TAB;
+        at = put_at(buf, at + 1, spelling, value);
+        k += 1;
+    }
+    at
+}
+
+// Puts a whole line of the first n numbers, or 16 where there is no room for it.
+pub(crate) fn put_line(buf: &mut [u8], kind: Kind, v: &[u64; 34], n: usize) -> Written
+    requires { ⌜ (n ≤ 34) × (length (now v) ≡ 34) ⌝ }
+    ensures { λ r. ⌜ (r ≡ answerOf (lineOf kind (take n (now (v .entry)))) (now (buf .entry))) × (now (buf .exit) ≡ bufferOf (lineOf kind (take n (now (v .entry)))) (now (buf .entry))) ⌝ }
+{
+    let len = 2 + widths(kind, v, n);
+    if buf.len() < len {
+        return Written::Refused(Refusal::Room);
+    }
+    buf[0] = kind.letter();
+    let end = put_numbers(buf, kind, v, n);
+    buf[end] = LINE_FEED;
+    Written::Done { len }
+}
+
+// Writes a message's line: 6 before 16, and nothing where either is given.
+pub fn write(message: Message, group: Group, buf: &mut [u8]) -> Written
+    ensures { λ r. ⌜ (r ≡ writeAnswer (messageFits group message) (spellLine group message) (now (buf .entry))) × (now (buf .exit) ≡ writeBuffer (messageFits group message) (spellLine group message) (now (buf .entry))) ⌝ }
+{
+    if !message.in_range(group) {
+        return Written::Refused(Refusal::Range);
+    }
+    let head = message.head;
+    let numbers = numbers_of(message, group);
+    let v = numbers.v;
+    let n = numbers.n;
+    put_line(buf, kind_is(head), &v, n)
+}
+
+// Writes the line X of a refusal, which needs no group.
+pub fn write_refusal(why: Refusal, buf: &mut [u8]) -> Written
+    ensures { λ r. ⌜ (r ≡ answerOf (refusalLine why) (now (buf .entry))) × (now (buf .exit) ≡ bufferOf (refusalLine why) (now (buf .entry))) ⌝ }
+{
+    let mut v = [0u64; 34];
+    v[0] = why.number() as u64;
+    put_line(buf, Kind::Refused, &v, 1)
+}
