@@ -1,0 +1,2 @@
+-- The ways that a step can go.
+pub mod Ways
