@@ -1,2 +1,6 @@
 -- The laws of the step.
 pub mod Ways
+pub mod Masks
+pub mod Held
+pub mod Valid
+pub mod Fits
