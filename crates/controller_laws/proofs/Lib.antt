@@ -4,3 +4,4 @@ pub mod Masks
 pub mod Held
 pub mod Valid
 pub mod Fits
+pub mod Refusals

@@ -1,2 +1,3 @@
 -- The ways that a step can go.
 pub mod Ways
+pub mod Endings
