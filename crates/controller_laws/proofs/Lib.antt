@@ -5,3 +5,5 @@ pub mod Held
 pub mod Valid
 pub mod Fits
 pub mod Refusals
+pub mod Decided
+pub mod Sendings

@@ -1,3 +1,4 @@
 -- The ways that a step can go.
 pub mod Ways
 pub mod Endings
+pub mod Sendings
