@@ -7,3 +7,4 @@ pub mod Fits
 pub mod Refusals
 pub mod Decided
 pub mod Sendings
+pub mod Rises

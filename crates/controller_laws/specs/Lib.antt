@@ -2,3 +2,4 @@
 pub mod Ways
 pub mod Endings
 pub mod Sendings
+pub mod Changes
