@@ -8,3 +8,4 @@ pub mod Refusals
 pub mod Decided
 pub mod Sendings
 pub mod Rises
+pub mod Changes
