@@ -26,6 +26,8 @@ use Rattle.message.specs.declared.head.Head.{Head}
 use Rattle.message.specs.declared.head.Head.the-variants.{Reading, Reply, Vote, Setpoints, Floor, Start}
 use Rattle.message.specs.declared.value.Message.{Message}
 use Rattle.message.specs.Head.{headFits}
+use Rattle.plan.specs.declared.brief.Phase.{Phase}
+use Rattle.plan.specs.declared.brief.Phase.the-variants.{Pending}
 use Rattle.plan.specs.declared.planned.Effect.{Effect}
 use Rattle.plan.specs.declared.planned.Effect.the-variants.{Issue}
 use Rattle.plan.specs.declared.planned.Plan.{Plan}
@@ -35,7 +37,7 @@ use Rattle.plan.specs.Plan.{afterwards}
 use Rattle.plan.specs.Votes.{ownDigest}
 use Rattle.controller.specs.declared.state.Controller.{Controller}
 use Rattle.controller.specs.declared.step.Answer.{Answer}
-use Rattle.controller.specs.State.{briefOf, nobody, ballotAt}
+use Rattle.controller.specs.State.{briefOf, nobody, ballotAt, cast}
 use Rattle.controller.specs.Start.{startOf}
 use Rattle.controller.specs.Merge.{runBit, agreePlace, agreeAt, agrees, mergedAt, merged}
 use Rattle.controller.specs.Effects.{seated, applied}
@@ -45,7 +47,7 @@ use Rattle.controller_laws.specs.Changes.ReadingFrom.{was-held, by-readi
 use Rattle.controller_laws.specs.Changes.VoteFrom.{was-cast, by-digest, by-floor}
 use Rattle.controller_laws.specs.Changes.StateFrom.{was-state, by-update, by-issue, by-start}
 use Rattle.controller_laws.specs.Sendings.{OnSent}
-use Rattle.controller_laws.specs.Ways.{Votes, Leads, Goes}
+use Rattle.controller_laws.specs.Ways.{Free, Votes, Leads, Goes}
 use Rattle.controller_laws.specs.Ways.Votes.{another's, ours}
 use Rattle.controller_laws.specs.Ways.Leads.{refused, unchanged, begins, adds, replies, merges, updates, adopts-idle, adopts-before, adopts-past, asks, adverts, asks-and-adverts, collected, lapses, counts, open-still, behind, lacking, issues, restarts}
 use Rattle.controller_laws.specs.Ways.Goes.{out, led}
@@ -53,7 +55,7 @@ use Rattle.controller_laws.proofs.Fits.{inputs}
 use Rattle.controller_laws.proofs.Held.{empty-mask, merged-place, readings-length}
 use Rattle.controller_laws.proofs.Masks.{in-and, in-or, in-run, not-in-run}
 use Rattle.controller_laws.proofs.Rises.{same-effect}
-use Rattle.controller_laws.proofs.Valid.{sized}
+use Rattle.controller_laws.proofs.Valid.{sized, Own, phase-own, Valid}
 use Rattle.controller_laws.proofs.Ways.{goes}
 
 never : {A : Type 0} {b : Bool} → b ≡ true → b ≡ false → A
@@ -274,6 +276,66 @@ module _ (s : Numbers) (c : Controller) (a : Message) (seat : ℕ) (d : Digest) 
       way : {r : Answer} → Goes s c a r → ballotAt (r .next) seat ≡ Cast d → FromVote r
       way (out e) q = was-cast refl q
       way (led e w) q = vote-came w refl q
+
+-- ---- votes are never altered
+
+-- a vote stays when a free seat takes a digest
+seated-keeps : (votes : List Seat) (j : ℕ) (digest : Digest) (seat : ℕ) (d : Digest) → (seat ≡ j → d ≡ digest) → getD votes seat nobody .ballot ≡ Cast d
+    → getD (seated votes j digest) seat nobody .ballot ≡ Cast d
+seated-keeps votes j digest seat d f h =
+    by-cases (ℕ-discrete seat j)
+    (λ e. by-cases (decLt j (length votes))
+    (λ l. ap (λ (x : Seat). x .ballot) (ap (λ (n : ℕ). getD (seated votes j digest) n nobody) e ∙ getD-set-same votes j (record { ballot = Cast digest }) nobody l) ∙ ap Cast (sym (f e)))
+    (λ l. ap (λ (x : List Seat). getD x seat nobody .ballot) (set-out votes j (record { ballot = Cast digest }) (omega arith)) ∙ h))
+    (λ n. ap (λ (x : Seat). x .ballot) (getD-set-other votes j seat (record { ballot = Cast digest }) nobody n) ∙ h)
+
+free-same : (b : Ballot) (d digest : Digest) → b ≡ Cast d → Free b digest → d ≡ digest
+free-same Missing d digest h f = not-missing h
+free-same (Cast e) d digest h f = sym (same-digest h) ∙ f
+
+module _ (s : Numbers) (c : Controller) (a : Message) (seat : ℕ) (d : Digest) (q : ballotAt c seat ≡ Cast d) where
+  -- before our vote our own seat is empty
+  module _ (v : Valid s c) where
+    unvoted : c .phase ≡ Pending → seat ≡ c .own → d ≡ ownDigest (briefOf c)
+    unvoted e z =
+        let o = subst (λ (p : Phase). Own p (ballotAt c (c .own))) e (phase-own (briefOf c) (s .group .m) (ballotAt c (c .own)) (c .phase) (v .phase)) in
+        never (ap cast (sym (ap (ballotAt c) z) ∙ q)) o
+
+    taken-keeps : {h : Head} {j : ℕ} {digest : Digest} {first : Sent} → Votes c h j digest first → getD (seated (c .votes) j digest) seat nobody .ballot ≡ Cast d
+    taken-keeps (another's {sender} {digest} n e f) = seated-keeps (c .votes) sender digest seat d (λ z. free-same (ballotAt c sender) d digest (ap (ballotAt c) (sym z) ∙ q) f) q
+    taken-keeps (ours e) = seated-keeps (c .votes) (c .own) (ownDigest (briefOf c)) seat d (unvoted e) q
+
+    vote-keeps : {h : Head} {p : Plan} → Leads s c a h p → NoStart h → applied s a c (p .effect) .label ≡ c .label → ballotAt (applied s a c (p .effect)) seat ≡ Cast d
+    unfolding applied
+    vote-keeps (refused why e) n l = q
+    vote-keeps unchanged n l = q
+    vote-keeps (begins {label} b g) n l = absurd (omega (arith, ap (λ (r : RoundLabel). r .0) l))
+    vote-keeps (adds e g) n l = q
+    vote-keeps (replies b g) n l = q
+    vote-keeps (merges e g) n l = q
+    vote-keeps (updates g) n l = q
+    vote-keeps (adopts-idle e g) n l = q
+    vote-keeps (adopts-before e g b) n l = q
+    vote-keeps (adopts-past e g b) n l = q
+    vote-keeps (asks e g) n l = q
+    vote-keeps (adverts e g) n l = q
+    vote-keeps (asks-and-adverts e g b) n l = q
+    vote-keeps (collected e) n l = q
+    vote-keeps (lapses e) n l = q
+    vote-keeps (counts {sender} {digest} k e f) n l = seated-keeps (c .votes) sender digest seat d (λ z. free-same (ballotAt c sender) d digest (ap (ballotAt c) (sym z) ∙ q) f) q
+    vote-keeps (open-still w z) n l = taken-keeps w
+    vote-keeps (behind w z b) n l = taken-keeps w
+    vote-keeps (lacking w z b g) n l = taken-keeps w
+    vote-keeps (issues w z b g) n l = subst (λ (e : Effect). ballotAt (applied s a c e) seat ≡ Cast d) (sym (same-effect _ _ _)) (taken-keeps w)
+    vote-keeps (restarts {own} {floor}) n l = absurd (n own floor refl)
+
+  -- while the label stays, every vote held is held after the step
+  pub votes-kept : NoStart (a .head) → stepped s c a .next .label ≡ c .label → ballotAt (stepped s c a .next) seat ≡ Cast d
+  votes-kept n = way (goes s c a)
+    where
+      way : {r : Answer} → Goes s c a r → r .next .label ≡ c .label → ballotAt (r .next) seat ≡ Cast d
+      way (out e) l = q
+      way (led e w) l = vote-keeps (inputs s c a e .valid) w n l
 
 -- ---- where the state comes from
 module _ (s : Numbers) (c : Controller) (a : Message) where

@@ -111,7 +111,7 @@ pub told : (s : Group) (a : Message) → messageFits s a ≡ true → Told s a (
 unfolding messageFits
 told s a h =
     let q = five (groupFits s) (headFits s (a .head)) (readingsFit (carried s (a .head) .readings) (a .readings)) (stateFits (carried s (a .head) .estimates) (a .estimates))
-      (targetsFit (carried s (a .head) .targets) (a .targets)) h in
+    (targetsFit (carried s (a .head) .targets) (a .targets)) h in
     record { head = q .1; readings = q .2; estimates = q .3 }
 
 three : (a b c : Bool) → (a && b && c) ≡ true → (a ≡ true) × (b ≡ true) × (c ≡ true)
@@ -312,7 +312,7 @@ module _ (s : Numbers) (c : Controller) (fit : numbersFit s ≡ true) (v : Valid
     way-valid (behind {seat = seat} {digest = digest} w d n) t = let q = vote-fits w (t .head) in counted-valid seat digest Idle (q .0) (q .1) (λ b. absurd b) tt
     way-valid (lacking {seat = seat} {digest = digest} w d b n) t = let q = vote-fits w (t .head) in counted-valid seat digest Idle (q .0) (q .1) (λ b. absurd b) tt
     way-valid (issues {chosen = chosen} w d b n) t = issued chosen _ w (t .head)
-    way-valid (restarts {own} {floor} ) t = start-valid s fit own floor (ltb-true _ _ (and-left (ltb own (s .group .g)) (floorFits floor) (t .head))) (and-right (ltb own (s .group .g)) (floorFits floor) (t .head))
+    way-valid (restarts {own} {floor}) t = start-valid s fit own floor (ltb-true _ _ (and-left (ltb own (s .group .g)) (floorFits floor) (t .head))) (and-right (ltb own (s .group .g)) (floorFits floor) (t .head))
 
 -- ---- a step
 pub record Inputs (s : Numbers) (c : Controller) (a : Message) : Type 0 where

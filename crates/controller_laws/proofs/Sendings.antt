@@ -236,3 +236,36 @@ module _ (s : Numbers) (c : Controller) (a : Message) where
       way : {r : Answer} → Goes s c a r → (head : Head) → IsSent r head → MaySend s c (a .head) head
       way (out e) = one-of _ Nothing Nothing tt tt
       way (led {p} e w) = let k = way-may w in one-of _ (p .first) (p .second) (k .0) (k .1)
+
+  -- what is sent stands in `first`, then `second`, with no gap
+  in-order : {h : Head} {p : Plan} → Leads s c a h p → p .first ≡ Nothing → p .second ≡ Nothing
+  unfolding afterwards
+  in-order (refused why e) q = refl
+  in-order unchanged q = refl
+  in-order (begins l k) q = refl
+  in-order (adds e n) q = refl
+  in-order (replies b n) q = refl
+  in-order (merges e n) q = refl
+  in-order (updates l) q = refl
+  in-order (adopts-idle e l) q = refl
+  in-order (adopts-before e l k) q = refl
+  in-order (adopts-past e l k) q = refl
+  in-order (asks e n) q = refl
+  in-order (adverts e l) q = refl
+  in-order (asks-and-adverts e n l) q = let z : _≡_ {A = ℕ} 0 1 = cc in absurd (omega arith)
+  in-order (collected e) q = refl
+  in-order (lapses e) q = refl
+  in-order (counts n e f) q = refl
+  in-order (open-still w d) q = refl
+  in-order (behind w d b) q = refl
+  in-order (lacking w d b n) q = refl
+  in-order (issues {first = Nothing} w d b n) q = refl
+  in-order (issues {first = One one} w d b n) q = let z : _≡_ {A = ℕ} 0 1 = cc in absurd (omega arith)
+  in-order restarts q = refl
+
+  pub sent-in-order : stepped s c a .first ≡ Nothing → stepped s c a .second ≡ Nothing
+  sent-in-order = way (goes s c a)
+    where
+      way : {r : Answer} → Goes s c a r → r .first ≡ Nothing → r .second ≡ Nothing
+      way (out e) q = refl
+      way (led e w) q = in-order w q

@@ -191,8 +191,8 @@ module _ (s : Numbers) (c : Controller) where
   unfolding controllerFits
   valid-facts h =
       let q = eight (ltb (c .own) (s .group .g)) (floorFits (c .label)) (stateLabelFits (c .state)) (stateFits (s .group .m) (c .estimates))
-        (ltb (c .held) (maskEnd (s .group .m))) (readingsFit (c .held) (c .readings)) (seatsFit (s .group) (c .label) (c .votes))
-        (phaseFits (briefOf c) (s .group .m) (ballotAt c (c .own)) (c .phase)) h in
+      (ltb (c .held) (maskEnd (s .group .m))) (readingsFit (c .held) (c .readings)) (seatsFit (s .group) (c .label) (c .votes))
+      (phaseFits (briefOf c) (s .group .m) (ballotAt c (c .own)) (c .phase)) h in
       record {
         own = ltb-true _ _ (q .0);
         label = leb-true _ _ (q .1);
