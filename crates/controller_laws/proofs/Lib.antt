@@ -9,3 +9,4 @@ pub mod Decided
 pub mod Sendings
 pub mod Rises
 pub mod Changes
+pub mod Session

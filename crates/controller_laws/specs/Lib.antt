@@ -3,3 +3,4 @@ pub mod Ways
 pub mod Endings
 pub mod Sendings
 pub mod Changes
+pub mod Session
