@@ -1,0 +1,173 @@
+// Prints numbers, messages and states: fields parted by tabs, floats by their bits.
+use fields::Spelling;
+use fields::put_at;
+use floats::bits::bits_of;
+use message::Head;
+use message::Message;
+use units::Estimate;
+use units::limits::RUNS;
+use units::mask::has;
+use vote::Digest;
+
+// The first bytes of a line.
+fn front(line: &[u8], end: usize) {
+    if end <= line.len() {
+        io::write_all(1, &line[..end]);
+    }
+}
+
+// A tab and a number.
+fn field(spelling: Spelling, n: u64) {
+    let mut buf = [0u8; 24];
+    let end = put_at(&mut buf, 0, spelling, n);
+    io::write_all(1, b"\t");
+    front(&buf, end);
+}
+
+pub fn number(n: u32) {
+    field(Spelling::Decimal, n as u64);
+}
+
+fn place(n: usize) {
+    number((n % 65536) as u32);
+}
+
+fn float(v: f64) {
+    field(Spelling::Hex16, bits_of(v));
+}
+
+fn digest(d: Digest) {
+    let state = d.state;
+    number(state.0);
+    number(d.mask);
+}
+
+// The readings of the mask's runs.
+fn readings(mask: u32, raws: [u32; 16]) {
+    let mut i = 0usize;
+    while i < RUNS {
+        if has(mask, i) {
+            number(raws[i]);
+        }
+        i += 1;
+    }
+}
+
+// x and P of the first m runs.
+pub fn state(m: usize, estimates: [Estimate; 16]) {
+    let mut i = 0usize;
+    while i < RUNS {
+        if i < m {
+            let e = estimates[i];
+            float(e.x);
+            float(e.variance);
+        }
+        i += 1;
+    }
+}
+
+// The targets of the first m runs.
+fn targets(m: usize, given: [f64; 16]) {
+    let mut i = 0usize;
+    while i < RUNS {
+        if i < m {
+            float(given[i]);
+        }
+        i += 1;
+    }
+}
+
+// A message that is sent.
+pub fn message(m: usize, a: Message) {
+    let head = a.head;
+    match head {
+        Head::Query {
+            sender,
+            label,
+            mask,
+        } => {
+            io::write_all(1, b"\tQ");
+            place(sender);
+            number(label.0);
+            number(mask);
+        }
+        Head::Reply {
+            sender,
+            label,
+            mask,
+        } => {
+            io::write_all(1, b"\tR");
+            place(sender);
+            number(label.0);
+            number(mask);
+            let raws = a.readings;
+            readings(mask, raws);
+        }
+        Head::Advert {
+            sender,
+            state: label,
+        } => {
+            io::write_all(1, b"\tA");
+            place(sender);
+            number(label.0);
+        }
+        Head::Update {
+            sender,
+            state: label,
+        } => {
+            io::write_all(1, b"\tU");
+            place(sender);
+            number(label.0);
+            let estimates = a.estimates;
+            state(m, estimates);
+        }
+        Head::Vote {
+            sender,
+            label,
+            digest: d,
+        } => {
+            io::write_all(1, b"\tD");
+            place(sender);
+            number(label.0);
+            digest(d);
+        }
+        Head::Setpoints {
+            sender,
+            label,
+            digest: d,
+        } => {
+            io::write_all(1, b"\tS");
+            place(sender);
+            number(label.0);
+            digest(d);
+            let given = a.targets;
+            targets(m, given);
+        }
+        Head::Floor { label } => {
+            io::write_all(1, b"\tF");
+            number(label.0);
+        }
+        Head::Reading {
+            label: _,
+            run: _,
+            raw: _,
+        } => {
+            io::write_all(1, b"\tM");
+        }
+        Head::Due { label: _ } => {
+            io::write_all(1, b"\tC");
+        }
+        Head::CollectingEnds { label: _ } => {
+            io::write_all(1, b"\tE");
+        }
+        Head::VotingEnds { label: _ } => {
+            io::write_all(1, b"\tV");
+        }
+        Head::Start { own: _, floor: _ } => {
+            io::write_all(1, b"\tB");
+        }
+        Head::Refused { number: _ } => {
+            io::write_all(1, b"\tX");
+        }
+    }
+}

@@ -1,0 +1,12 @@
+-- The laws of the step.
+pub mod Ways
+pub mod Masks
+pub mod Held
+pub mod Valid
+pub mod Fits
+pub mod Refusals
+pub mod Decided
+pub mod Sendings
+pub mod Rises
+pub mod Changes
+pub mod Session

@@ -1,0 +1,271 @@
+-- EVERY MESSAGE SENT IS IN RANGE, so that it can be written; and nothing is sent but what document 01 names. Assumes nothing.
+use Prim.Native.Nat.{ℕ, _-_, _≤_, _<_}
+use native.Mathlib.Omega.{arith}
+use mathlib.Core.Path.{_≡_, refl, sym, ap, subst, _∙_}
+use mathlib.Core.Bool.{Bool, true, false, _&&_}
+use mathlib.Core.List.{List}
+use mathlib.Core.Logic.{_⊎_, ⊎-elim}
+use lib.Bits.{bitAnd, and-le-r}
+use lib.Ieee.{Float, nan}
+use lib.ListN.{getD, replicate, getD-replicate}
+use borrow.Author.Tests.{lt-ltb, le-leb}
+use Rattle.units.specs.declared.estimate.Estimate.{Estimate}
+use Rattle.units.specs.declared.labels.RoundLabel.{RoundLabel}
+use Rattle.units.specs.declared.settings.Group.{Group}
+use Rattle.units.specs.declared.settings.Numbers.{Numbers}
+use Rattle.units.specs.Labels.{roundFits}
+use Rattle.units.specs.Limits.{runsTop, labelTop}
+use Rattle.units.specs.Mask.{maskEnd, maskFits}
+use Rattle.units.specs.Settings.{groupFits, numbersFit}
+use Rattle.units.proofs.Masks.{some-mask}
+use Rattle.floats.specs.Bits.{nought}
+use Rattle.floats.specs.Ranges.{blank, noEstimate, stateFits, targetsFit}
+use Rattle.floats.proofs.Places.{state-made, targets-made}
+use Rattle.vote.specs.declared.digest.Digest.{Digest}
+use Rattle.vote.specs.declared.judge.Decision.the-variants.{Decided}
+use Rattle.vote.specs.Digest.{legal}
+use Rattle.filter.specs.Compute.{newTotal, setPoints, computed}
+use Rattle.filter.proofs.Laws.{given-range}
+use Rattle.message.specs.declared.head.Carried.{Carried}
+use Rattle.message.specs.declared.head.Head.{Head}
+use Rattle.message.specs.declared.head.Head.the-variants.{Query, Reply, Advert, Update, Vote, Setpoints, Floor}
+use Rattle.message.specs.declared.value.Message.{Message}
+use Rattle.message.specs.Head.{headFits, carry, carried}
+use Rattle.message.specs.Message.{plain, messageFits}
+use Rattle.message.specs.Readings.{readingsFit}
+use Rattle.plan.specs.declared.brief.Phase.the-variants.{Idle, Collecting}
+use Rattle.plan.specs.declared.planned.Effect.the-variants.{Issue}
+use Rattle.plan.specs.declared.planned.Plan.{Plan}
+use Rattle.plan.specs.declared.planned.Sent.{Sent}
+use Rattle.plan.specs.declared.planned.Sent.the-variants.{Nothing, One}
+use Rattle.plan.specs.Plan.{afterwards}
+use Rattle.plan.specs.Timers.{missingRuns}
+use Rattle.plan.specs.Votes.{ownDigest}
+use Rattle.controller.specs.declared.state.Controller.{Controller}
+use Rattle.controller.specs.declared.step.Answer.{Answer}
+use Rattle.controller.specs.State.{briefOf}
+use Rattle.controller.specs.Merge.{selected}
+use Rattle.controller.specs.Effects.{counted, issuing, applied}
+use Rattle.controller.specs.Sent.{withReadings, withEstimates, withTargets, sentMessage}
+use Rattle.controller.specs.Step.{decided, votesWith, stepped}
+use Rattle.controller_laws.specs.Sendings.{IsSent, MaySend, OnSent}
+use Rattle.controller_laws.specs.Sendings.MaySend.{reply, update, query, advert, floor, vote, setpoints}
+use Rattle.controller_laws.specs.Ways.{Busy, Votes, Leads, Goes}
+use Rattle.controller_laws.specs.Ways.Votes.{another's, ours}
+use Rattle.controller_laws.specs.Ways.Leads.{refused, unchanged, begins, adds, replies, merges, updates, adopts-idle, adopts-before, adopts-past, asks, adverts, asks-and-adverts, collected, lapses, counts, open-still, behind, lacking, issues, restarts}
+use Rattle.controller_laws.specs.Ways.Goes.{out, led}
+use Rattle.controller_laws.proofs.Decided.{decided-legal}
+use Rattle.controller_laws.proofs.Fits.{own-legal, inputs}
+use Rattle.controller_laws.proofs.Held.{none-fit, selected-fit}
+use Rattle.controller_laws.proofs.Valid.{and-both, sized, group-fits, legal-facts, Valid}
+use Rattle.controller_laws.proofs.Ways.{goes}
+
+-- ---- arrays that a message does not use
+unused-estimates : stateFits 0 (replicate runsTop blank) ≡ true
+unused-estimates = state-made 0 (replicate runsTop blank) refl (λ i l k. absurd (omega arith)) (λ i l k. getD-replicate 16 i blank noEstimate k)
+
+unused-targets : targetsFit 0 (replicate runsTop nought) ≡ true
+unused-targets = targets-made 0 (replicate runsTop nought) refl (λ i l k. absurd (omega arith)) (λ i l k. getD-replicate 16 i nought nan k)
+
+message-made : (s : Group) (a : Message) → groupFits s ≡ true → headFits s (a .head) ≡ true → readingsFit (carried s (a .head) .readings) (a .readings) ≡ true
+    → stateFits (carried s (a .head) .estimates) (a .estimates) ≡ true → targetsFit (carried s (a .head) .targets) (a .targets) ≡ true → messageFits s a ≡ true
+unfolding messageFits
+message-made s a g h r e t = and-both (and-both (and-both (and-both g h) r) e) t
+
+plain-fits : (s : Group) (head : Head) → groupFits s ≡ true → headFits s head ≡ true → carried s head ≡ carry 0 0 0 → messageFits s (plain head) ≡ true
+unfolding plain
+plain-fits s head g h e =
+    message-made s (plain head) g h (ap (λ (k : Carried). readingsFit (k .readings) (replicate runsTop 0)) e ∙ none-fit)
+    (ap (λ (k : Carried). stateFits (k .estimates) (replicate runsTop blank)) e ∙ unused-estimates)
+    (ap (λ (k : Carried). targetsFit (k .targets) (replicate runsTop nought)) e ∙ unused-targets)
+
+-- ---- each kind that is sent
+module _ (s : Numbers) (c : Controller) (fit : numbersFit s ≡ true) (v : Valid s c) where
+  abbrev m : ℕ
+  m = s .group .m
+
+  -- the message can be sent by a controller whose own number, label and mask are those of c
+  abbrev Ready : Controller → Head → Type 0
+  Ready n head = messageFits (s .group) (sentMessage s n head head) ≡ true
+
+  sender : (x : Bool) → x ≡ true → (lib.Dec.ltb (c .own) (s .group .g) && x) ≡ true
+  sender x h = and-both (lt-ltb _ _ (v .own)) h
+
+  round : Busy (c .phase) → roundFits (c .label) ≡ true
+  round b =
+      let q = legal-facts m (c .label) (ownDigest (briefOf c)) (own-legal s c fit v b) in
+      and-both (le-leb 1 (c .label .0) (omega (arith, q .older))) (le-leb (c .label .0) labelTop (v .label))
+
+  reply-ready : (mask : ℕ) → Busy (c .phase) → (bitAnd mask (c .held) ≡ 0 → ⊥) → Ready c (Reply (c .own) (c .label) (bitAnd mask (c .held)))
+  unfolding sentMessage headFits carried plain
+  reply-ready mask b n =
+      message-made (s .group) (withReadings (Reply (c .own) (c .label) (bitAnd mask (c .held))) (selected (bitAnd mask (c .held)) (c .readings))) (group-fits s fit)
+      (and-both (sender _ (round b)) (and-both (le-leb 1 (bitAnd mask (c .held)) (omega arith)) (lt-ltb (bitAnd mask (c .held)) (maskEnd m) (omega (arith, and-le-r mask (c .held), v .held)))))
+      (selected-fit mask (c .held) (c .readings) (v .readings)) unused-estimates unused-targets
+
+  update-ready : Ready c (Update (c .own) (c .state))
+  unfolding sentMessage headFits carried plain
+  update-ready =
+      message-made (s .group) (withEstimates (Update (c .own) (c .state)) (c .estimates)) (group-fits s fit) (sender _ (le-leb (c .state .0) labelTop (v .state))) none-fit (v .estimates) unused-targets
+
+  advert-ready : Ready c (Advert (c .own) (c .state))
+  unfolding sentMessage headFits carried
+  advert-ready = plain-fits (s .group) (Advert (c .own) (c .state)) (group-fits s fit) (sender _ (le-leb (c .state .0) labelTop (v .state))) refl
+
+  query-ready : Busy (c .phase) → (missingRuns (briefOf c) m ≡ 0 → ⊥) → Ready c (Query (c .own) (c .label) (missingRuns (briefOf c) m))
+  unfolding sentMessage headFits carried missingRuns
+  query-ready b n =
+      plain-fits (s .group) (Query (c .own) (c .label) (missingRuns (briefOf c) m)) (group-fits s fit)
+      (and-both (sender _ (round b)) (and-both (le-leb 1 (maskEnd m - 1 - c .held) (omega arith)) (lt-ltb (maskEnd m - 1 - c .held) (maskEnd m) (omega (arith, some-mask m))))) refl
+
+  floor-ready : (n : Controller) → Busy (c .phase) → Ready n (Floor (c .label))
+  unfolding sentMessage headFits carried
+  floor-ready n b = plain-fits (s .group) (Floor (c .label)) (group-fits s fit) (round b) refl
+
+  vote-ready : (n : Controller) → Busy (c .phase) → Ready n (Vote (c .own) (c .label) (ownDigest (briefOf c)))
+  unfolding sentMessage headFits carried
+  vote-ready n b = plain-fits (s .group) (Vote (c .own) (c .label) (ownDigest (briefOf c))) (group-fits s fit) (and-both (sender _ (round b)) (own-legal s c fit v b)) refl
+
+  setpoints-ready : (seat : ℕ) (digest chosen : Digest) → Busy (c .phase) → decided s c seat digest ≡ Decided chosen
+      → Ready (issuing s (counted c seat digest Idle) chosen) (Setpoints (c .own) (c .label) chosen)
+  unfolding sentMessage headFits carried plain computed newTotal setPoints
+  setpoints-ready seat digest chosen b d =
+      message-made (s .group) (withTargets (Setpoints (c .own) (c .label) chosen) (setPoints s (issuing s (counted c seat digest Idle) chosen .estimates))) (group-fits s fit)
+      (and-both (sender _ (round b)) (decided-legal (votesWith s c seat digest) chosen d)) none-fit unused-estimates
+      (given-range (c .label) (c .state) (c .estimates) s (chosen .mask) (c .readings) fit (v .estimates))
+
+  -- ---- every way
+  module _ (a : Message) where
+    -- what holds of all that a plan sends, on the controller after it
+    abbrev AllReady : Plan → Type 0
+    AllReady p = OnSent (Ready (applied s a c (p .effect))) (p .first) × OnSent (Ready (applied s a c (p .effect))) (p .second)
+
+    voting : {h : Head} {seat : ℕ} {digest : Digest} {first : Sent} → Votes c h seat digest first → Busy (c .phase)
+    voting (another's n e f) = rw e tt
+    voting (ours e) = rw e tt
+
+    -- what goes out with a vote
+    with-vote : {h : Head} {seat : ℕ} {digest : Digest} {first : Sent} (n : Controller) → Votes c h seat digest first → OnSent (Ready n) first
+    with-vote n (another's k e f) = tt
+    with-vote n (ours e) = vote-ready n (rw e tt)
+
+    issue-ready : {h : Head} {seat : ℕ} {digest : Digest} {first : Sent} (chosen : Digest) → Votes c h seat digest first → decided s c seat digest ≡ Decided chosen
+        → AllReady (afterwards (Issue seat digest chosen) (Setpoints (c .own) (c .label) chosen) first)
+    unfolding afterwards applied
+    issue-ready chosen (another's {sender} {digest} n e f) d = (setpoints-ready sender digest chosen (rw e tt) d, tt)
+    issue-ready chosen (ours e) d = (vote-ready _ (rw e tt), setpoints-ready (c .own) (ownDigest (briefOf c)) chosen (rw e tt) d)
+
+    way-ready : {h : Head} {p : Plan} → Leads s c a h p → AllReady p
+    unfolding applied
+    way-ready (refused why e) = (tt, tt)
+    way-ready unchanged = (tt, tt)
+    way-ready (begins l k) = (tt, tt)
+    way-ready (adds e n) = (tt, tt)
+    way-ready (replies {mask = mask} b n) = (reply-ready mask b n, tt)
+    way-ready (merges e n) = (tt, tt)
+    way-ready (updates l) = (update-ready, tt)
+    way-ready (adopts-idle e l) = (tt, tt)
+    way-ready (adopts-before e l k) = (tt, tt)
+    way-ready (adopts-past e l k) = (tt, tt)
+    way-ready (asks e n) = (query-ready (rw e tt) n, tt)
+    way-ready (adverts e l) = (advert-ready, tt)
+    way-ready (asks-and-adverts e n l) = (query-ready (rw e tt) n, advert-ready)
+    way-ready (collected e) = (floor-ready _ (rw e tt), tt)
+    way-ready (lapses e) = (tt, tt)
+    way-ready (counts n e f) = (tt, tt)
+    way-ready (open-still w d) = (with-vote _ w, tt)
+    way-ready (behind w d b) = (with-vote _ w, tt)
+    way-ready (lacking w d b n) = (with-vote _ w, tt)
+    way-ready (issues {chosen = chosen} w d b n) = issue-ready chosen w d
+    way-ready restarts = (tt, tt)
+
+-- what holds of all that an answer sends holds of one of its messages
+one-of : (P : Head → Type 0) (x y : Sent) → OnSent P x → OnSent P y → (head : Head) → (x ≡ One head) ⊎ (y ≡ One head) → P head
+one-of P x y p q head w = ⊎-elim (λ e. subst (OnSent P) e p) (λ e. subst (OnSent P) e q) w
+
+module _ (s : Numbers) (c : Controller) (a : Message) where
+  -- "every message answered is in range, so it can always be written": from any settings, state and message, as whole values
+  pub sent-fits : (head : Head) → IsSent (stepped s c a) head → messageFits (s .group) (sentMessage s (stepped s c a .next) head head) ≡ true
+  sent-fits = way (goes s c a)
+    where
+      way : {r : Answer} → Goes s c a r → (head : Head) → IsSent r head → messageFits (s .group) (sentMessage s (r .next) head head) ≡ true
+      way (out e) = one-of _ Nothing Nothing tt tt
+      way (led {p} e w) = let q = inputs s c a e in let k = way-ready s c (q .numbers) (q .valid) a w in one-of _ (p .first) (p .second) (k .0) (k .1)
+
+  -- ---- what may be sent
+  abbrev AllMay : Head → Plan → Type 0
+  AllMay h p = OnSent (MaySend s c h) (p .first) × OnSent (MaySend s c h) (p .second)
+
+  with-vote-may : {h : Head} {seat : ℕ} {digest : Digest} {first : Sent} → Votes c h seat digest first → OnSent (MaySend s c h) first
+  with-vote-may (another's k e f) = tt
+  with-vote-may (ours e) = vote e
+
+  issue-may : {h : Head} {seat : ℕ} {digest : Digest} {first : Sent} (chosen : Digest) → Votes c h seat digest first → decided s c seat digest ≡ Decided chosen
+      → AllMay h (afterwards (Issue seat digest chosen) (Setpoints (c .own) (c .label) chosen) first)
+  unfolding afterwards
+  issue-may chosen (another's {sender} {digest} n e f) d = (setpoints (another's {sender = sender} {digest = digest} n e f) d, tt)
+  issue-may chosen (ours e) d = (vote e, setpoints (ours e) d)
+
+  way-may : {h : Head} {p : Plan} → Leads s c a h p → AllMay h p
+  way-may (refused why e) = (tt, tt)
+  way-may unchanged = (tt, tt)
+  way-may (begins l k) = (tt, tt)
+  way-may (adds e n) = (tt, tt)
+  way-may (replies b n) = (reply b, tt)
+  way-may (merges e n) = (tt, tt)
+  way-may (updates l) = (update l, tt)
+  way-may (adopts-idle e l) = (tt, tt)
+  way-may (adopts-before e l k) = (tt, tt)
+  way-may (adopts-past e l k) = (tt, tt)
+  way-may (asks e n) = (query e, tt)
+  way-may (adverts e l) = (advert e, tt)
+  way-may (asks-and-adverts e n l) = (query e, advert e)
+  way-may (collected e) = (floor e, tt)
+  way-may (lapses e) = (tt, tt)
+  way-may (counts n e f) = (tt, tt)
+  way-may (open-still w d) = (with-vote-may w, tt)
+  way-may (behind w d b) = (with-vote-may w, tt)
+  way-may (lacking w d b n) = (with-vote-may w, tt)
+  way-may (issues {chosen = chosen} w d b n) = issue-may chosen w d
+  way-may restarts = (tt, tt)
+
+  -- a message goes out only where the kind of message taken and the phase allow it, and it is the one that they name
+  pub sent-few : (head : Head) → IsSent (stepped s c a) head → MaySend s c (a .head) head
+  sent-few = way (goes s c a)
+    where
+      way : {r : Answer} → Goes s c a r → (head : Head) → IsSent r head → MaySend s c (a .head) head
+      way (out e) = one-of _ Nothing Nothing tt tt
+      way (led {p} e w) = let k = way-may w in one-of _ (p .first) (p .second) (k .0) (k .1)
+
+  -- what is sent stands in `first`, then `second`, with no gap
+  in-order : {h : Head} {p : Plan} → Leads s c a h p → p .first ≡ Nothing → p .second ≡ Nothing
+  unfolding afterwards
+  in-order (refused why e) q = refl
+  in-order unchanged q = refl
+  in-order (begins l k) q = refl
+  in-order (adds e n) q = refl
+  in-order (replies b n) q = refl
+  in-order (merges e n) q = refl
+  in-order (updates l) q = refl
+  in-order (adopts-idle e l) q = refl
+  in-order (adopts-before e l k) q = refl
+  in-order (adopts-past e l k) q = refl
+  in-order (asks e n) q = refl
+  in-order (adverts e l) q = refl
+  in-order (asks-and-adverts e n l) q = let z : _≡_ {A = ℕ} 0 1 = cc in absurd (omega arith)
+  in-order (collected e) q = refl
+  in-order (lapses e) q = refl
+  in-order (counts n e f) q = refl
+  in-order (open-still w d) q = refl
+  in-order (behind w d b) q = refl
+  in-order (lacking w d b n) q = refl
+  in-order (issues {first = Nothing} w d b n) q = refl
+  in-order (issues {first = One one} w d b n) q = let z : _≡_ {A = ℕ} 0 1 = cc in absurd (omega arith)
+  in-order restarts q = refl
+
+  pub sent-in-order : stepped s c a .first ≡ Nothing → stepped s c a .second ≡ Nothing
+  sent-in-order = way (goes s c a)
+    where
+      way : {r : Answer} → Goes s c a r → r .first ≡ Nothing → r .second ≡ Nothing
+      way (out e) q = refl
+      way (led e w) q = in-order w q

@@ -1,0 +1,217 @@
+-- What it says that settings, a digest, seats, a phase and a whole controller are in range, as facts and back. Assumes nothing.
+use Prim.Native.Nat.{ℕ, _≤_, _<_}
+use native.Mathlib.Omega.{arith}
+use native.Mathlib.Decide.{ℕ-discrete}
+use mathlib.Core.Path.{_≡_, refl, sym, ap, subst, _∙_}
+use mathlib.Core.Bool.{Bool, true, false, not, _&&_}
+use mathlib.Core.List.{List}
+use mathlib.Core.Logic.{by-cases}
+use lib.Dec.{eqb, leb, ltb}
+use lib.ListN.{length, getD, set, replicate, length-set, getD-replicate}
+use lib.Seq.{getD-set-same, getD-set-other}
+use borrow.Author.Tests.{eqb-true, eq-eqb, leb-true, le-leb, ltb-true, lt-ltb, not-true}
+use Rattle.units.specs.declared.labels.RoundLabel.{RoundLabel}
+use Rattle.units.specs.declared.settings.Group.{Group}
+use Rattle.units.specs.declared.settings.Numbers.{Numbers}
+use Rattle.units.specs.Every.{every}
+use Rattle.units.specs.Labels.{before, floorFits, stateLabelFits}
+use Rattle.units.specs.Limits.{controllersTop, runsTop, labelTop, noiseTop, firstTop}
+use Rattle.units.specs.Mask.{maskEnd, maskFits}
+use Rattle.units.specs.Settings.{groupFits, numbersFit, runsFit}
+use Rattle.units.specs.Within.{within}
+use Rattle.units.proofs.Every.{and-left, and-right, every-at, every-all}
+use Rattle.floats.specs.Ranges.{stateFits}
+use Rattle.vote.specs.declared.digest.Digest.{Digest}
+use Rattle.vote.specs.declared.votes.Ballot.{Ballot}
+use Rattle.vote.specs.declared.votes.Ballot.the-variants.{Missing, Cast}
+use Rattle.vote.specs.declared.votes.Seat.{Seat}
+use Rattle.vote.specs.Digest.{legal}
+use Rattle.vote.specs.Vote.{seatFits, seatAt, seatsFit}
+use Rattle.message.specs.Readings.{readingsFit}
+use Rattle.plan.specs.declared.brief.Brief.{Brief}
+use Rattle.plan.specs.declared.brief.Phase.{Phase}
+use Rattle.plan.specs.declared.brief.Phase.the-variants.{Idle, Collecting, Pending, Voting}
+use Rattle.plan.specs.Votes.{ownDigest}
+use Rattle.controller.specs.declared.state.Controller.{Controller}
+use Rattle.controller.specs.State.{briefOf, nobody, ballotAt, cast, phaseFits, controllerFits}
+use Rattle.controller.specs.Effects.{seated}
+use Rattle.controller_laws.specs.Ways.{Busy}
+
+pub and-both : {a b : Bool} → a ≡ true → b ≡ true → (a && b) ≡ true
+and-both p q = rw (p, q)
+
+pub five : (a b c d e : Bool) → (a && b && c && d && e) ≡ true → (a ≡ true) × (b ≡ true) × (c ≡ true) × (d ≡ true) × (e ≡ true)
+five a b c d e p =
+    let q = and-left (a && b && c && d) e p in
+    let r = and-left (a && b && c) d q in
+    let t = and-left (a && b) c r in
+    (and-left a b t, and-right a b t, and-right (a && b) c r, and-right (a && b && c) d q, and-right (a && b && c && d) e p)
+
+eight : (a b c d e f g h : Bool) → (a && b && c && d && e && f && g && h) ≡ true
+    → (a ≡ true) × (b ≡ true) × (c ≡ true) × (d ≡ true) × (e ≡ true) × (f ≡ true) × (g ≡ true) × (h ≡ true)
+eight a b c d e f g h p =
+    let q = and-left (a && b && c && d && e && f && g) h p in
+    let r = and-left (a && b && c && d && e && f) g q in
+    let t = five (a && b) c d e f r in
+    (and-left a b (t .0), and-right a b (t .0), t .1, t .2, t .3, t .4, and-right (a && b && c && d && e && f) g q, and-right (a && b && c && d && e && f && g) h p)
+
+-- ---- the settings
+pub record Sized (s : Group) : Type 0 where
+  pub g-low : 1 ≤ s .g
+  pub g-high : s .g ≤ controllersTop
+  pub m-low : 1 ≤ s .m
+  pub m-high : s .m ≤ runsTop
+
+module _ (s : Numbers) (h : numbersFit s ≡ true) where
+  first : (groupFits (s .group) && (within 1 noiseTop (s .q) && within 1 noiseTop (s .r)) && within 1 firstTop (s .p)) ≡ true
+  unfolding numbersFit
+  first = and-left (groupFits (s .group) && (within 1 noiseTop (s .q) && within 1 noiseTop (s .r)) && within 1 firstTop (s .p)) (runsFit s) h
+
+  pub group-fits : groupFits (s .group) ≡ true
+  group-fits = and-left (groupFits (s .group)) _ (and-left (groupFits (s .group) && (within 1 noiseTop (s .q) && within 1 noiseTop (s .r))) _ first)
+
+  pub first-high : s .p ≤ firstTop
+  first-high = leb-true _ _ (and-right (leb 1 (s .p)) _ (and-right (groupFits (s .group) && (within 1 noiseTop (s .q) && within 1 noiseTop (s .r))) _ first))
+
+  pub sized : Sized (s .group)
+  unfolding groupFits
+  sized =
+      let l = and-left (within 1 controllersTop (s .group .g)) (within 1 runsTop (s .group .m)) group-fits in
+      let r = and-right (within 1 controllersTop (s .group .g)) (within 1 runsTop (s .group .m)) group-fits in
+      record {
+        g-low = leb-true _ _ (and-left (leb 1 (s .group .g)) _ l);
+        g-high = leb-true _ _ (and-right (leb 1 (s .group .g)) _ l);
+        m-low = leb-true _ _ (and-left (leb 1 (s .group .m)) _ r);
+        m-high = leb-true _ _ (and-right (leb 1 (s .group .m)) _ r);
+      }
+
+-- ---- a digest
+pub record Lawful (m : ℕ) (label : RoundLabel) (d : Digest) : Type 0 where
+  pub some-run : 1 ≤ d .mask
+  pub own-runs : d .mask < maskEnd m
+  pub older : d .state .0 < label .0
+
+module _ (m : ℕ) (label : RoundLabel) (d : Digest) where
+  pub legal-facts : legal m label d ≡ true → Lawful m label d
+  unfolding legal
+  legal-facts h =
+      let k = and-right (leb m runsTop) _ (and-left (leb m runsTop && maskFits m (d .mask)) (before (d .state) label) h) in
+      record {
+        some-run = leb-true _ _ (and-left (leb 1 (d .mask)) _ k);
+        own-runs = ltb-true _ _ (and-right (leb 1 (d .mask)) _ k);
+        older = ltb-true _ _ (and-right (leb m runsTop && maskFits m (d .mask)) (before (d .state) label) h);
+      }
+
+  pub legal-made : m ≤ runsTop → Lawful m label d → legal m label d ≡ true
+  unfolding legal
+  legal-made k f =
+      and-both (and-both (le-leb m runsTop k) (and-both (le-leb 1 (d .mask) (f .some-run)) (lt-ltb (d .mask) (maskEnd m) (f .own-runs)))) (lt-ltb (d .state .0) (label .0) (f .older))
+
+-- ---- seats
+module _ (s : Group) (label : RoundLabel) (votes : List Seat) where
+  pub seats-length : seatsFit s label votes ≡ true → length votes ≡ 7
+  unfolding seatsFit
+  seats-length h = eqb-true _ _ (and-left (eqb (length votes) 7) _ h)
+
+  pub seats-place : seatsFit s label votes ≡ true → (i : ℕ) → i < 7 → seatAt s label votes i ≡ true
+  unfolding seatsFit
+  seats-place h i k = every-at (seatAt s label votes) 7 i (and-right (eqb (length votes) 7) _ h) k
+
+  pub seats-made : length votes ≡ 7 → ((i : ℕ) → i < 7 → seatAt s label votes i ≡ true) → seatsFit s label votes ≡ true
+  unfolding seatsFit
+  seats-made e f = and-both (eq-eqb (length votes) 7 e) (every-all (seatAt s label votes) 7 f)
+
+  -- one vote more
+  pub seated-fit : seatsFit s label votes ≡ true → (seat : ℕ) (d : Digest) → seat < s .g → s .g ≤ 7 → legal (s .m) label d ≡ true → seatsFit s label (seated votes seat d) ≡ true
+  unfolding seatFits seatsFit
+  seated-fit h seat d l k q = and-both (eq-eqb (length (seated votes seat d)) 7 (length-set votes seat (record { ballot = Cast d }) ∙ seats-length h)) (every-all (seatAt s label (seated votes seat d)) 7 place)
+    where
+      here : seatAt s label (seated votes seat d) seat ≡ true
+      here =
+          ap (λ (v : Seat). seatFits (ltb seat (s .g)) (s .m) label (v .ballot)) (getD-set-same votes seat (record { ballot = Cast d }) nobody (omega (arith, seats-length h)))
+          ∙ and-both (lt-ltb seat (s .g) l) q
+
+      place : (i : ℕ) → i < 7 → seatAt s label (seated votes seat d) i ≡ true
+      place i b =
+          by-cases (ℕ-discrete i seat) (λ e. subst (λ (j : ℕ). seatAt s label (seated votes seat d) j ≡ true) (sym e) here)
+          (λ n. ap (λ (v : Seat). seatFits (ltb i (s .g)) (s .m) label (v .ballot)) (getD-set-other votes seat i (record { ballot = Cast d }) nobody n) ∙ seats-place h i b)
+
+-- no vote
+pub unseated-fit : (s : Group) (label : RoundLabel) → seatsFit s label (replicate controllersTop nobody) ≡ true
+unfolding seatFits
+unseated-fit s label =
+    seats-made s label (replicate controllersTop nobody) refl
+    (λ i k. ap (λ (v : Seat). seatFits (ltb i (s .g)) (s .m) label (v .ballot)) (getD-replicate 7 i nobody nobody k))
+
+pub unseated : (i : ℕ) → i < 7 → cast (getD (replicate controllersTop nobody) i nobody .ballot) ≡ false
+unseated i k = ap (λ (v : Seat). cast (v .ballot)) (getD-replicate 7 i nobody nobody k)
+
+-- ---- a phase: the own vote is there exactly while voting
+abbrev pub Own : Phase → Ballot → Type 0
+Own Idle b = Unit {0}
+Own Collecting b = cast b ≡ false
+Own Pending b = cast b ≡ false
+Own Voting b = cast b ≡ true
+
+module _ (b : Brief) (m : ℕ) (own : Ballot) where
+  pub phase-legal : (phase : Phase) → phaseFits b m own phase ≡ true → Busy phase → legal m (b .label) (ownDigest b) ≡ true
+  unfolding phaseFits
+  phase-legal Idle h k = absurd k
+  phase-legal Collecting h k = and-left (legal m (b .label) (ownDigest b)) _ h
+  phase-legal Pending h k = and-left (legal m (b .label) (ownDigest b)) _ h
+  phase-legal Voting h k = and-left (legal m (b .label) (ownDigest b)) _ h
+
+  pub phase-own : (phase : Phase) → phaseFits b m own phase ≡ true → Own phase own
+  unfolding phaseFits
+  phase-own Idle h = tt
+  phase-own Collecting h = not-true _ (and-right (legal m (b .label) (ownDigest b)) _ h)
+  phase-own Pending h = not-true _ (and-right (legal m (b .label) (ownDigest b)) _ h)
+  phase-own Voting h = and-right (legal m (b .label) (ownDigest b)) _ h
+
+  pub phase-made : (phase : Phase) → (Busy phase → legal m (b .label) (ownDigest b) ≡ true) → Own phase own → phaseFits b m own phase ≡ true
+  unfolding phaseFits
+  phase-made Idle h k = refl
+  phase-made Collecting h k = and-both (h tt) (ap not k)
+  phase-made Pending h k = and-both (h tt) (ap not k)
+  phase-made Voting h k = and-both (h tt) k
+
+-- ---- a controller
+pub record Valid (s : Numbers) (c : Controller) : Type 0 where
+  pub own : c .own < s .group .g
+  pub label : c .label .0 ≤ labelTop
+  pub state : c .state .0 ≤ labelTop
+  pub estimates : stateFits (s .group .m) (c .estimates) ≡ true
+  pub held : c .held < maskEnd (s .group .m)
+  pub readings : readingsFit (c .held) (c .readings) ≡ true
+  pub votes : seatsFit (s .group) (c .label) (c .votes) ≡ true
+  pub phase : phaseFits (briefOf c) (s .group .m) (ballotAt c (c .own)) (c .phase) ≡ true
+
+module _ (s : Numbers) (c : Controller) where
+  pub valid-facts : controllerFits s c ≡ true → Valid s c
+  unfolding controllerFits
+  valid-facts h =
+      let q = eight (ltb (c .own) (s .group .g)) (floorFits (c .label)) (stateLabelFits (c .state)) (stateFits (s .group .m) (c .estimates))
+      (ltb (c .held) (maskEnd (s .group .m))) (readingsFit (c .held) (c .readings)) (seatsFit (s .group) (c .label) (c .votes))
+      (phaseFits (briefOf c) (s .group .m) (ballotAt c (c .own)) (c .phase)) h in
+      record {
+        own = ltb-true _ _ (q .0);
+        label = leb-true _ _ (q .1);
+        state = leb-true _ _ (q .2);
+        estimates = q .3;
+        held = ltb-true _ _ (q .4);
+        readings = q .5;
+        votes = q .6;
+        phase = q .7;
+      }
+
+  pub valid-made : Valid s c → controllerFits s c ≡ true
+  unfolding controllerFits
+  valid-made v =
+      and-both
+      (and-both
+      (and-both
+      (and-both
+      (and-both (and-both (and-both (lt-ltb _ _ (v .own)) (le-leb _ _ (v .label))) (le-leb _ _ (v .state))) (v .estimates)) (lt-ltb _ _ (v .held)))
+      (v .readings))
+      (v .votes))
+      (v .phase)

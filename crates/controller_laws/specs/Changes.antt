@@ -1,0 +1,52 @@
+-- "What a step doesn't name stays": where each reading, each vote and the state after a step come from.
+use Prim.Native.Nat.{ℕ, _<_}
+use mathlib.Core.Path.{_≡_}
+use mathlib.Core.Bool.{true, false}
+use lib.ListN.{getD}
+use Rattle.units.specs.declared.labels.RoundLabel.{RoundLabel}
+use Rattle.units.specs.declared.settings.Numbers.{Numbers}
+use Rattle.units.specs.Labels.{before, issuedState}
+use Rattle.units.specs.Mask.{inMask}
+use Rattle.vote.specs.declared.digest.Digest.{Digest}
+use Rattle.vote.specs.declared.judge.Decision.the-variants.{Decided}
+use Rattle.vote.specs.declared.votes.Ballot.the-variants.{Cast}
+use Rattle.filter.specs.Compute.{newState}
+use Rattle.message.specs.declared.head.Head.{Head}
+use Rattle.message.specs.declared.head.Head.the-variants.{Reading, Reply, Update, Vote, Floor, Start}
+use Rattle.message.specs.declared.value.Message.{Message}
+use Rattle.plan.specs.declared.brief.Phase.the-variants.{Idle, Pending}
+use Rattle.plan.specs.declared.planned.Sent.{Sent}
+use Rattle.plan.specs.declared.planned.Sent.the-variants.{One}
+use Rattle.plan.specs.Votes.{ownDigest, possessed}
+use Rattle.controller.specs.declared.state.Controller.{Controller}
+use Rattle.controller.specs.declared.step.Answer.{Answer}
+use Rattle.controller.specs.State.{briefOf, ballotAt}
+use Rattle.controller.specs.Start.{startEstimates}
+use Rattle.controller.specs.Step.{decided}
+use Rattle.controller_laws.specs.Ways.{Votes}
+
+-- the message is no B
+abbrev pub NoStart : Head → Type 0
+NoStart h = (own : ℕ) (floor : RoundLabel) → h ≡ Start own floor → ⊥
+
+-- a reading held after a step, for a run: it was held, or the message said it for the label that is current now
+pub data ReadingFrom (c : Controller) (a : Message) (n : Controller) (i : ℕ) : Type 0 where
+  was-held : n .label ≡ c .label → inMask (c .held) i ≡ true → getD (n .readings) i 0 ≡ getD (c .readings) i 0 → ReadingFrom c a n i
+  by-reading : (raw : ℕ) → a .head ≡ Reading (n .label) i raw → getD (n .readings) i 0 ≡ raw → ReadingFrom c a n i
+  by-reply : (sender mask : ℕ) → a .head ≡ Reply sender (n .label) mask → inMask mask i ≡ true → getD (n .readings) i 0 ≡ getD (a .readings) i 0 → ReadingFrom c a n i
+
+-- a vote held after a step: it was held, or the message is its D, or it is our own and goes out with this F
+pub data VoteFrom (c : Controller) (a : Message) (r : Answer) (seat : ℕ) (d : Digest) : Type 0 where
+  was-cast : r .next .label ≡ c .label → ballotAt c seat ≡ Cast d → VoteFrom c a r seat d
+  by-digest : a .head ≡ Vote seat (r .next .label) d → VoteFrom c a r seat d
+  by-floor : a .head ≡ Floor (r .next .label) → c .phase ≡ Pending → seat ≡ c .own → d ≡ ownDigest (briefOf c)
+      → r .first ≡ One (Vote (c .own) (r .next .label) (ownDigest (briefOf c))) → VoteFrom c a r seat d
+
+-- the state after a step: as it was, or that of the message, or the one that the decided round leaves, or that of a start
+pub data StateFrom (s : Numbers) (c : Controller) (a : Message) (n : Controller) : Type 0 where
+  was-state : n .state ≡ c .state → n .estimates ≡ c .estimates → StateFrom s c a n
+  by-update : (sender : ℕ) → a .head ≡ Update sender (n .state) → n .estimates ≡ a .estimates → c .state .0 < n .state .0 → StateFrom s c a n
+  by-issue : (seat : ℕ) (digest chosen : Digest) (first : Sent) → Votes c (a .head) seat digest first → decided s c seat digest ≡ Decided chosen → before (chosen .state) (c .label) ≡ true
+      → possessed (briefOf c) chosen ≡ true → n .label ≡ c .label → n .state ≡ issuedState (c .label)
+      → n .estimates ≡ newState (c .label) (c .state) (c .estimates) s (chosen .mask) (c .readings) → StateFrom s c a n
+  by-start : (own : ℕ) (floor : RoundLabel) → a .head ≡ Start own floor → n .state ≡ record { 0 = 0 } → n .estimates ≡ startEstimates (s .group .m) (s .p) → StateFrom s c a n

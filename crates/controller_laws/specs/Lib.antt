@@ -1,0 +1,6 @@
+-- The ways that a step can go.
+pub mod Ways
+pub mod Endings
+pub mod Sendings
+pub mod Changes
+pub mod Session

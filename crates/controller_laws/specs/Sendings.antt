@@ -1,0 +1,41 @@
+-- What a step may send: "at most what document 01 names", by the kind of message that it took.
+use Prim.Native.Nat.{ℕ, _<_}
+use mathlib.Core.Path.{_≡_}
+use mathlib.Core.Logic.{_⊎_}
+use lib.Bits.{bitAnd}
+use Rattle.units.specs.declared.labels.StateLabel.{StateLabel}
+use Rattle.units.specs.declared.settings.Numbers.{Numbers}
+use Rattle.vote.specs.declared.digest.Digest.{Digest}
+use Rattle.vote.specs.declared.judge.Decision.the-variants.{Decided}
+use Rattle.message.specs.declared.head.Head.{Head}
+use Rattle.message.specs.declared.head.Head.the-variants.{Query, Reply, Advert, Update, Vote, Setpoints, Due, CollectingEnds, Floor}
+use Rattle.plan.specs.declared.brief.Phase.the-variants.{Collecting, Pending}
+use Rattle.plan.specs.declared.planned.Sent.{Sent}
+use Rattle.plan.specs.declared.planned.Sent.the-variants.{Nothing, One}
+use Rattle.plan.specs.Timers.{missingRuns}
+use Rattle.plan.specs.Votes.{ownDigest}
+use Rattle.controller.specs.declared.state.Controller.{Controller}
+use Rattle.controller.specs.declared.step.Answer.{Answer}
+use Rattle.controller.specs.State.{briefOf}
+use Rattle.controller.specs.Step.{decided}
+use Rattle.controller_laws.specs.Ways.{Busy, Votes}
+
+-- one of an answer's up to two messages
+abbrev pub IsSent : Answer → Head → Type 0
+IsSent r head = (r .first ≡ One head) ⊎ (r .second ≡ One head)
+
+-- what the message on the left may lead to being sent
+pub data MaySend (s : Numbers) (c : Controller) : Head → Head → Type 0 where
+  reply : {sender mask : ℕ} → Busy (c .phase) → MaySend s c (Query sender (c .label) mask) (Reply (c .own) (c .label) (bitAnd mask (c .held)))
+  update : {sender : ℕ} {theirs : StateLabel} → theirs .0 < c .state .0 → MaySend s c (Advert sender theirs) (Update (c .own) (c .state))
+  query : c .phase ≡ Collecting → MaySend s c (Due (c .label)) (Query (c .own) (c .label) (missingRuns (briefOf c) (s .group .m)))
+  advert : c .phase ≡ Collecting → MaySend s c (Due (c .label)) (Advert (c .own) (c .state))
+  floor : c .phase ≡ Collecting → MaySend s c (CollectingEnds (c .label)) (Floor (c .label))
+  vote : c .phase ≡ Pending → MaySend s c (Floor (c .label)) (Vote (c .own) (c .label) (ownDigest (briefOf c)))
+  setpoints : {h : Head} {seat : ℕ} {digest chosen : Digest} {first : Sent} → Votes c h seat digest first → decided s c seat digest ≡ Decided chosen
+      → MaySend s c h (Setpoints (c .own) (c .label) chosen)
+
+-- something holds of a message that is sent
+abbrev pub OnSent : (Head → Type 0) → Sent → Type 0
+OnSent P Nothing = Unit {0}
+OnSent P (One head) = P head

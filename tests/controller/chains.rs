@@ -1,0 +1,450 @@
+//! A second controller, written from document 01's text alone, led through the chain of crates/controller_chains.
+//! It makes the stdout that crate is held to:
+//!     rustc --edition 2021 -O tests/controller/chains.rs -o target/tests/chains && target/tests/chains > crates/controller_chains/stdout
+
+use std::fmt::Write;
+
+const G: usize = 3;
+const M: usize = 3;
+const Q: u32 = 7;
+const R: u32 = 300;
+const P: u32 = 99;
+const FACTORS: [u32; M] = [10047, 9000, 11000];
+const WEIGHTS: [u32; M] = [3, 1, 1000];
+
+/// The chain: a kind, up to four values, and what it is there for.
+const CHAIN: [(&str, [u32; 4]); 106] = [
+    ("M", [1, 0, 200000, 0]), // a first round
+    ("C", [1, 0, 0, 0]), // asks for two runs, no A: the state is label - 1
+    ("R", [1, 1, 6, 500]), // runs 1 and 2
+    ("R", [2, 1, 6, 500]), // the same again
+    ("R", [2, 1, 7, 500]), // run 0 clashes, so nothing is added
+    ("M", [1, 1, 600, 0]), // the same reading again
+    ("M", [1, 1, 601, 0]), // another
+    ("Q", [1, 1, 5, 0]), // replies with two runs
+    ("Q", [0, 1, 5, 0]), // own number
+    ("F", [1, 0, 0, 0]), // not pending
+    ("E", [1, 0, 0, 0]), // F goes out
+    ("M", [1, 1, 600, 0]), // closed
+    ("R", [1, 1, 6, 500]), // closed while pending
+    ("C", [1, 0, 0, 0]), // closed while pending
+    ("E", [1, 0, 0, 0]), // closed while pending
+    ("U", [1, 9, 100, 5]), // closed while pending
+    ("D", [1, 1, 0, 7]), // before our vote
+    ("D", [1, 1, 0, 7]), // again
+    ("D", [1, 1, 0, 3]), // another
+    ("F", [1, 0, 0, 0]), // our vote, decided: S
+    ("M", [1, 2, 700, 0]), // late
+    ("D", [2, 1, 0, 7]), // idle
+    ("Q", [1, 1, 5, 0]), // idle
+    ("A", [1, 0, 0, 0]), // U
+    ("A", [1, 1, 0, 0]), // nothing to send
+    ("A", [0, 0, 0, 0]), // own number
+    ("M", [3, 0, 210000, 0]), // a second round, label 2 left out
+    ("C", [3, 0, 0, 0]), // asks for two runs, and A
+    ("M", [3, 2, 190000, 0]), // run 2
+    ("C", [3, 0, 0, 0]), // asks for run 1, and A
+    ("E", [2, 0, 0, 0]), // another label
+    ("E", [3, 0, 0, 0]), // F goes out
+    ("F", [3, 0, 0, 0]), // our vote
+    ("D", [1, 3, 1, 1]), // undecided still
+    ("U", [1, 9, 100, 5]), // closed while voting
+    ("D", [2, 3, 1, 5]), // late, decided for ours: S
+    ("M", [4, 0, 1000, 0]), // a third round
+    ("E", [4, 0, 0, 0]),
+    ("V", [4, 0, 0, 0]), // not voting
+    ("F", [4, 0, 0, 0]),
+    ("V", [5, 0, 0, 0]), // another label
+    ("V", [4, 0, 0, 0]), // 12
+    ("M", [4, 1, 1000, 0]), // late: idle at that label
+    ("M", [5, 0, 1000, 0]), // a fourth round
+    ("E", [5, 0, 0, 0]),
+    ("F", [5, 0, 0, 0]),
+    ("D", [1, 5, 3, 3]), // undecided
+    ("D", [2, 5, 3, 3]), // decided, run 1 isn't here: 13
+    ("D", [2, 5, 3, 3]), // idle
+    ("M", [6, 0, 1000, 0]), // a fifth round
+    ("D", [1, 6, 5, 7]),
+    ("D", [2, 6, 5, 7]),
+    ("E", [6, 0, 0, 0]),
+    ("F", [6, 0, 0, 0]), // our vote, decided for a state that isn't here: D and 13
+    ("M", [7, 0, 1000, 0]), // a sixth round
+    ("U", [1, 3, 100, 5]), // equal label, other bits: 11
+    ("U", [1, 2, 100, 5]), // lower: nothing
+    ("U", [1, 5, 100, 5]), // higher, before the round
+    ("U", [2, 5, 100, 5]), // the same again
+    ("U", [2, 7, 300, 9]), // at the round's label: idle
+    ("M", [7, 1, 1000, 0]), // late
+    ("U", [0, 8, 100, 5]), // own number
+    ("U", [1, 9, 77, 3]), // idle: above the label
+    ("M", [8, 1, 1000, 0]), // at or below the state label
+    ("M", [9, 1, 1000, 0]), // at or below the state label
+    ("M", [10, 1, 123456, 0]), // a round on the state of 9
+    ("M", [11, 1, 123457, 0]), // a new label drops it
+    ("D", [1, 10, 9, 2]), // another label
+    ("E", [11, 0, 0, 0]),
+    ("D", [1, 11, 9, 2]),
+    ("D", [2, 11, 9, 2]), // pending, not judged
+    ("F", [11, 0, 0, 0]), // all three agree: D and S
+    ("M", [12, 3, 5, 0]), // no such run
+    ("M", [12, 0, 1000001, 0]), // raw too large
+    ("M", [0, 0, 5, 0]), // label 0
+    ("Q", [1, 11, 8, 0]), // no such run
+    ("D", [1, 11, 11, 7]), // the state label isn't below the label
+    ("D", [3, 11, 10, 7]), // no such controller
+    ("B", [3, 0, 0, 0]), // no such controller
+    ("S", [1, 11, 10, 7]), // another's S
+    ("S", [0, 11, 10, 7]), // our own
+    ("X", [9, 0, 0, 0]), // of no kind here
+    ("M", [12, 0, 5, 0]), // a round that the restart drops
+    ("B", [2, 12, 0, 0]), // restart as 2, at a floor
+    ("M", [12, 0, 5, 0]), // late: idle at the floor
+    ("M", [13, 0, 5, 0]), // a round on the empty state
+    ("E", [13, 0, 0, 0]),
+    ("F", [13, 0, 0, 0]),
+    ("D", [0, 13, 12, 7]), // the full digest
+    ("Q", [0, 13, 7, 0]), // replies while voting
+    ("M", [14, 0, 5, 0]), // above the label while voting: a new round
+    ("D", [0, 14, 13, 7]),
+    ("E", [14, 0, 0, 0]),
+    ("F", [14, 0, 0, 0]),
+    ("D", [1, 14, 13, 7]), // twice the full digest: decided, 13
+    ("B", [1, 0, 0, 0]), // restart as 1, at 0
+    ("M", [1, 0, 0, 0]), // a round of noughts
+    ("E", [1, 0, 0, 0]),
+    ("D", [0, 1, 0, 1]),
+    ("F", [1, 0, 0, 0]), // decided: S of noughts
+    ("M", [4294967295, 2, 1000000, 0]), // the last label
+    ("C", [4294967295, 0, 0, 0]),
+    ("E", [4294967295, 0, 0, 0]),
+    ("F", [4294967295, 0, 0, 0]),
+    ("D", [0, 4294967295, 1, 4]), // two of three: S
+    ("M", [4294967295, 0, 5, 0]), // late
+];
+
+#[derive(Clone, Copy, PartialEq, Debug)]
+enum Phase {
+    Idle,
+    Collecting,
+    Pending,
+    Voting,
+}
+
+/// A digest as it is ordered: the number of measurements, the state label, the mask as a number.
+type Digest = (u32, u32, u32);
+
+fn digest(state: u32, mask: u32) -> Digest {
+    (mask.count_ones(), state, mask)
+}
+
+#[derive(Clone, PartialEq)]
+struct Controller {
+    own: u32,
+    phase: Phase,
+    label: u32,
+    state: u32,
+    estimates: [(f64, f64); M],
+    readings: [Option<u32>; M],
+    votes: [Option<Digest>; G],
+}
+
+fn start(own: u32, floor: u32) -> Controller {
+    Controller {
+        own,
+        phase: Phase::Idle,
+        label: floor,
+        state: 0,
+        estimates: [(0.0, f64::from(P)); M],
+        readings: [None; M],
+        votes: [None; G],
+    }
+}
+
+// ---- the vote
+
+/// "The winner among up to g votes is the most common, the largest on a tie."
+fn winner(votes: &[Option<Digest>; G]) -> Option<Digest> {
+    votes.iter().flatten().copied().max_by_key(|d| (votes.iter().filter(|v| **v == Some(*d)).count(), *d))
+}
+
+/// What a missing controller may do: no vote, one of those voted, or a digest with one of the four lowest or four highest state labels. Of the
+/// digests that nobody voted only the largest matters, and with three controllers it is among these.
+fn legal(votes: &[Option<Digest>; G], label: u32) -> Vec<Option<Digest>> {
+    let states = (0..4u32).chain((1..=4u32).map(|k| label.saturating_sub(k))).filter(|state| *state < label);
+    let mut found: Vec<Option<Digest>> = states.flat_map(|state| (1..1u32 << M).map(move |mask| Some(digest(state, mask)))).collect();
+    found.extend(votes.iter().filter(|v| v.is_some()));
+    found.push(None);
+    found
+}
+
+/// "Decided for a digest exactly when every completion has it as winner": completions are gone through one by one.
+fn decided(votes: &[Option<Digest>; G], label: u32) -> Option<Digest> {
+    let sought = winner(votes)?;
+    let options = legal(votes, label);
+    let mut all = vec![*votes];
+    for seat in 0..G {
+        if votes[seat].is_none() {
+            all = all.iter().flat_map(|v| options.iter().map(move |d| { let mut w = *v; w[seat] = *d; w })).collect();
+        }
+    }
+    all.iter().all(|v| winner(v) == Some(sought)).then_some(sought)
+}
+
+// ---- computing
+
+fn held_within(v: f64, limit: f64) -> f64 {
+    if v > 0.0 && v <= limit {
+        v
+    } else if v > limit {
+        limit
+    } else {
+        0.0
+    }
+}
+
+fn compute(c: &Controller, mask: u32) -> [(f64, f64); M] {
+    let n = u64::from(c.label - c.state);
+    std::array::from_fn(|i| {
+        let (x, p) = c.estimates[i];
+        let grown = p + (n * u64::from(Q)) as f64;
+        let p1 = if grown > 1e9 { 1e9 } else { grown };
+        if mask >> i & 1 == 0 {
+            return (x, held_within(p1, 1e9));
+        }
+        let raw = c.readings[i].expect("a chosen run is held");
+        let z = (u64::from(raw) * u64::from(FACTORS[i])) as f64 / 10000.0;
+        let k = p1 / (p1 + f64::from(R));
+        let step = k * (z - x);
+        let rest = 1.0 - k;
+        (held_within(x + step, 1_100_000.0), held_within(rest * p1, 1e9))
+    })
+}
+
+fn targets(state: &[(f64, f64); M]) -> [f64; M] {
+    let mut total = 0.0;
+    for (x, _) in state {
+        total += x;
+    }
+    let sum = f64::from(WEIGHTS.iter().sum::<u32>());
+    std::array::from_fn(|i| {
+        let share = total * f64::from(WEIGHTS[i]) / sum;
+        if share > total { total } else { share }
+    })
+}
+
+// ---- what is sent
+
+fn bits(v: f64) -> String {
+    format!("{:016X}", v.to_bits())
+}
+
+fn say(out: &mut String, kind: &str, values: &[u32]) {
+    write!(out, "\t{kind}").unwrap();
+    for v in values {
+        write!(out, "\t{v}").unwrap();
+    }
+}
+
+// ---- the phases of a round
+
+impl Controller {
+    fn mask(&self) -> u32 {
+        (0..M).filter(|i| self.readings[*i].is_some()).map(|i| 1 << i).sum()
+    }
+
+    /// 6 for a value out of its range.
+    fn in_range(kind: &str, v: [u32; 4]) -> bool {
+        let sender = (v[0] as usize) < G;
+        let mask = |m: u32| m >= 1 && m < 1 << M;
+        match kind {
+            "M" => v[0] >= 1 && (v[1] as usize) < M && v[2] <= 1_000_000,
+            "Q" | "R" => sender && v[1] >= 1 && mask(v[2]),
+            "A" | "U" => sender,
+            "D" | "S" => sender && v[1] >= 1 && v[2] < v[1] && mask(v[3]),
+            "B" => sender,
+            "X" => v[0] >= 1 && v[0] <= 16,
+            _ => v[0] >= 1,
+        }
+    }
+
+    /// One message: what is sent goes to `out`, the number is 0 or the refusal's.
+    fn step(&mut self, kind: &str, v: [u32; 4], out: &mut String) -> u32 {
+        if !Self::in_range(kind, v) {
+            return 6;
+        }
+        if kind == "B" {
+            *self = start(v[0], v[1]);
+            return 0;
+        }
+        if kind == "X" {
+            return 3;
+        }
+        if "QRAUDS".contains(kind) && v[0] == self.own {
+            return 7;
+        }
+        let label = if "QRD".contains(kind) { v[1] } else { v[0] };
+        if "QRDCEVF".contains(kind) && label != self.label {
+            return 10;
+        }
+        let takes = match kind {
+            "C" | "R" | "E" => self.phase == Phase::Collecting,
+            "Q" | "D" => self.phase != Phase::Idle,
+            "U" => self.phase == Phase::Idle || self.phase == Phase::Collecting,
+            "F" => self.phase == Phase::Pending,
+            "V" => self.phase == Phase::Voting,
+            "S" => false,
+            _ => true,
+        };
+        if !takes {
+            return 9;
+        }
+        match kind {
+            "M" => self.reading(v),
+            "C" => self.due(out),
+            "Q" => self.query(v[2], out),
+            "R" => self.reply(v[2], v[3]),
+            "A" => self.advert(v[1], out),
+            "U" => self.update(v),
+            "E" => {
+                self.phase = Phase::Pending;
+                say(out, "F", &[self.label]);
+                0
+            }
+            "F" => {
+                self.phase = Phase::Voting;
+                let own = digest(self.state, self.mask());
+                say(out, "D", &[self.own, self.label, own.1, own.2]);
+                self.votes[self.own as usize] = Some(own);
+                self.judge(out)
+            }
+            "D" => self.vote(v[0] as usize, digest(v[2], v[3]), out),
+            "V" => {
+                self.phase = Phase::Idle;
+                12
+            }
+            _ => unreachable!(),
+        }
+    }
+
+    fn reading(&mut self, v: [u32; 4]) -> u32 {
+        let (label, run, raw) = (v[0], v[1] as usize, v[2]);
+        if label <= self.state || label < self.label || (label == self.label && self.phase == Phase::Idle) {
+            return 8;
+        }
+        if label > self.label {
+            *self = Controller { label, phase: Phase::Collecting, readings: [None; M], votes: [None; G], ..self.clone() };
+        }
+        if self.phase != Phase::Collecting {
+            return 9;
+        }
+        if self.readings[run].is_some_and(|held| held != raw) {
+            return 11;
+        }
+        self.readings[run] = Some(raw);
+        0
+    }
+
+    fn due(&self, out: &mut String) -> u32 {
+        let missing = (1 << M) - 1 - self.mask();
+        if missing != 0 {
+            say(out, "Q", &[self.own, self.label, missing]);
+        }
+        if self.state < self.label - 1 {
+            say(out, "A", &[self.own, self.state]);
+        }
+        0
+    }
+
+    fn query(&self, asked: u32, out: &mut String) -> u32 {
+        let found = asked & self.mask();
+        if found != 0 {
+            say(out, "R", &[self.own, self.label, found]);
+            for i in (0..M).filter(|i| found >> i & 1 == 1) {
+                write!(out, "\t{}", self.readings[i].unwrap()).unwrap();
+            }
+        }
+        0
+    }
+
+    fn reply(&mut self, mask: u32, first: u32) -> u32 {
+        let said: Vec<(usize, u32)> = (0..M).filter(|i| mask >> i & 1 == 1).map(|i| (i, first + 100 * i as u32)).collect();
+        if said.iter().any(|(i, raw)| self.readings[*i].is_some_and(|held| held != *raw)) {
+            return 11;
+        }
+        for (i, raw) in said {
+            self.readings[i] = Some(raw);
+        }
+        0
+    }
+
+    fn advert(&self, theirs: u32, out: &mut String) -> u32 {
+        if theirs < self.state {
+            say(out, "U", &[self.own, self.state]);
+            out.push_str(&self.state_text());
+        }
+        0
+    }
+
+    fn update(&mut self, v: [u32; 4]) -> u32 {
+        let theirs: [(f64, f64); M] = std::array::from_fn(|i| (f64::from(v[2] + i as u32), f64::from(v[3])));
+        if v[1] == self.state {
+            return if theirs == self.estimates { 0 } else { 11 };
+        }
+        if v[1] > self.state {
+            self.state = v[1];
+            self.estimates = theirs;
+            if self.phase == Phase::Collecting && self.state >= self.label {
+                self.phase = Phase::Idle;
+            }
+        }
+        0
+    }
+
+    fn vote(&mut self, sender: usize, said: Digest, out: &mut String) -> u32 {
+        if self.votes[sender].is_some_and(|kept| kept != said) {
+            return 11;
+        }
+        self.votes[sender] = Some(said);
+        if self.phase == Phase::Voting { self.judge(out) } else { 0 }
+    }
+
+    fn judge(&mut self, out: &mut String) -> u32 {
+        let Some((_, state, mask)) = decided(&self.votes, self.label) else {
+            return 0;
+        };
+        self.phase = Phase::Idle;
+        if state >= self.label {
+            return 14;
+        }
+        if mask & !self.mask() != 0 || state != self.state {
+            return 13;
+        }
+        self.estimates = compute(self, mask);
+        self.state = self.label;
+        say(out, "S", &[self.own, self.label, state, mask]);
+        for t in targets(&self.estimates) {
+            write!(out, "\t{}", bits(t)).unwrap();
+        }
+        0
+    }
+
+    fn state_text(&self) -> String {
+        self.estimates.iter().map(|(x, p)| format!("\t{}\t{}", bits(*x), bits(*p))).collect()
+    }
+}
+
+fn main() {
+    let mut c = start(0, 0);
+    let mut text = String::new();
+    for (kind, v) in CHAIN {
+        let before = c.state;
+        let mut out = String::new();
+        let number = c.step(kind, v, &mut out);
+        write!(text, "\t{number}\t{}\t{}\t{}\t{}{out}", c.phase as u32, c.label, c.state, c.mask()).unwrap();
+        if c.state != before {
+            text.push_str(&c.state_text());
+        }
+        text.push('\n');
+    }
+    print!("{text}");
+}
