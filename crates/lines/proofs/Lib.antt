@@ -17,3 +17,5 @@ mod Quantities
 pub mod Meaning
 pub mod Saying
 pub mod RoundTrip
+pub mod SettingTrip
+pub mod WholeSettings

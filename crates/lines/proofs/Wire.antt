@@ -105,7 +105,7 @@ module _ (s : Group) (line : List ℕ) (a : Message) (gr : groupFits s ≡ true)
   text-accepted text le (Known k) ke e = known-only text le k ke (readValues k s (laterFields text)) refl e
   text-accepted text le Unknown ke e = not-taken _ _ a e
 
-feed-last : (line : List ℕ) → length (until 10 line) + 1 ≡ length line → line ≡ until 10 line ++ (10 ∷ [])
+pub feed-last : (line : List ℕ) → length (until 10 line) + 1 ≡ length line → line ≡ until 10 line ++ (10 ∷ [])
 unfolding scanned
 feed-last line h = rw (until-take 10 line) at (scan-ended line h .0)
 
@@ -121,7 +121,7 @@ line-accepted s line a =
     (λ g. rw g (λ e. not-taken _ _ a e))
 
 -- THE BYTES OF A LINE: no tab in a field, no line feed but the last
-written-lacks : (b : ℕ) (sp : Spelling) (n : ℕ) → b < 46 → lacks b (written sp n) ≡ true
+pub written-lacks : (b : ℕ) (sp : Spelling) (n : ℕ) → b < 46 → lacks b (written sp n) ≡ true
 unfolding lacks
 written-lacks b sp n h = by-lt (limit sp) n (λ l. rw (written-none sp n l)) (λ l. rw (written-is sp n l) (spelled-lacks b sp n h))
 
