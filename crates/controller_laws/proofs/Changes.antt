@@ -3,17 +3,16 @@ use Prim.Native.Nat.{ℕ, zero, suc, _≤_, _<_}
 use native.Mathlib.Omega.{arith}
 use native.Mathlib.Decide.{ℕ-discrete, decLt}
 use mathlib.Core.Path.{_≡_, refl, sym, ap, subst, _∙_}
-use mathlib.Core.Bool.{Bool, true, false, not, _&&_, _||_, true≢false, or-false}
+use mathlib.Core.Bool.{Bool, true, false, _&&_, _||_, true≢false, or-false}
 use mathlib.Core.List.{List}
 use mathlib.Core.Logic.{_⊎_, inl, inr, ⊎-elim, by-cases}
 use lib.Bits.{bitAnd, bitOr}
-use lib.Dec.{eqb, leb, ltb}
-use lib.ListN.{length, getD, set, replicate, getD-replicate}
+use lib.Dec.{leb, ltb}
+use lib.ListN.{length, getD, set, replicate}
 use lib.Seq.{getD-set-same, getD-set-other, set-out}
 use borrow.Author.Tests.{ltb-true, eqb-true, not-false}
 use Rattle.units.specs.declared.labels.RoundLabel.{RoundLabel}
 use Rattle.units.specs.declared.settings.Numbers.{Numbers}
-use Rattle.units.specs.Every.{every}
 use Rattle.units.specs.Labels.{roundFits}
 use Rattle.units.specs.Limits.{controllersTop, rawTop}
 use Rattle.units.specs.Mask.{inMask}
@@ -23,7 +22,7 @@ use Rattle.vote.specs.declared.votes.Ballot.{Ballot}
 use Rattle.vote.specs.declared.votes.Ballot.the-variants.{Missing, Cast}
 use Rattle.vote.specs.declared.votes.Seat.{Seat}
 use Rattle.message.specs.declared.head.Head.{Head}
-use Rattle.message.specs.declared.head.Head.the-variants.{Reading, Reply, Vote, Setpoints, Floor, Start}
+use Rattle.message.specs.declared.head.Head.the-variants.{Reading, Reply, Vote, Setpoints, Floor}
 use Rattle.message.specs.declared.value.Message.{Message}
 use Rattle.message.specs.Head.{headFits}
 use Rattle.plan.specs.declared.brief.Phase.{Phase}
@@ -53,7 +52,7 @@ use Rattle.controller_laws.specs.Ways.Leads.{refused, unchanged, begins,
 use Rattle.controller_laws.specs.Ways.Goes.{out, led}
 use Rattle.controller_laws.proofs.Fits.{inputs}
 use Rattle.controller_laws.proofs.Held.{empty-mask, merged-place, readings-length}
-use Rattle.controller_laws.proofs.Masks.{in-and, in-or, in-run, not-in-run}
+use Rattle.controller_laws.proofs.Masks.{in-and, in-or, not-in-run}
 use Rattle.controller_laws.proofs.Rises.{same-effect}
 use Rattle.controller_laws.proofs.Valid.{sized, Own, phase-own, Valid}
 use Rattle.controller_laws.proofs.Ways.{goes}

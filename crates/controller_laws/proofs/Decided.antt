@@ -2,7 +2,6 @@
 use mathlib.Core.Path.{_≡_, subst}
 use mathlib.Core.Bool.{true}
 use Rattle.vote.specs.declared.digest.Digest.{Digest}
-use Rattle.vote.specs.declared.judge.Decision.{Decision}
 use Rattle.vote.specs.declared.judge.Decision.the-variants.{Decided}
 use Rattle.vote.specs.declared.votes.Votes.{Votes}
 use Rattle.vote.specs.Digest.{legal}

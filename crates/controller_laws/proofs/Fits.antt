@@ -7,7 +7,7 @@ use mathlib.Core.Bool.{Bool, true, false, _&&_}
 use mathlib.Core.List.{List}
 use lib.Bits.{bitOr}
 use lib.Dec.{leb, ltb, lit≤}
-use lib.ListN.{length, getD, set, replicate}
+use lib.ListN.{getD, set, replicate}
 use lib.Seq.{getD-set-same, getD-set-other}
 use borrow.Author.Tests.{lt-ltb, le-ltb, ltb-true, leb-true}
 use Rattle.units.specs.declared.estimate.Estimate.{Estimate}
@@ -18,26 +18,24 @@ use Rattle.units.specs.declared.refusal.Verdict.the-variants.{Taken, Refused as
 use Rattle.units.specs.declared.settings.Group.{Group}
 use Rattle.units.specs.declared.settings.Numbers.{Numbers}
 use Rattle.units.specs.Labels.{roundFits, floorFits, stateLabelFits}
-use Rattle.units.specs.Limits.{controllersTop, runsTop, rawTop, xTop, varianceTop}
+use Rattle.units.specs.Limits.{runsTop, rawTop, xTop, varianceTop}
 use Rattle.units.specs.Mask.{maskEnd, maskFits}
 use Rattle.units.specs.Pick.{pick}
 use Rattle.units.specs.Settings.{groupFits, numbersFit}
 use Rattle.units.proofs.Every.{and-left, and-right}
 use Rattle.units.proofs.Masks.{some-mask}
-use Rattle.floats.specs.Bits.{whole}
-use Rattle.floats.specs.Ranges.{estimateFits, blank, noEstimate, stateFits, targetsFit}
+use Rattle.floats.specs.Ranges.{estimateFits, noEstimate, stateFits, targetsFit}
 use Rattle.floats.proofs.Limits.{whole-range, nought-range}
 use Rattle.floats.proofs.Places.{estimate-made, state-made}
 use Rattle.vote.specs.declared.digest.Digest.{Digest}
-use Rattle.vote.specs.declared.votes.Ballot.{Ballot}
 use Rattle.vote.specs.declared.votes.Ballot.the-variants.{Cast}
 use Rattle.vote.specs.declared.votes.Seat.{Seat}
 use Rattle.vote.specs.Digest.{legal}
-use Rattle.filter.specs.Compute.{newState, computed}
+use Rattle.filter.specs.Compute.{computed}
 use Rattle.filter.proofs.Laws.{state-range}
 use Rattle.filter.proofs.Tab.{length-tab, getD-tab}
 use Rattle.message.specs.declared.head.Head.{Head}
-use Rattle.message.specs.declared.head.Head.the-variants.{Reading, Vote, Update, Reply, Start}
+use Rattle.message.specs.declared.head.Head.the-variants.{Reading, Update, Reply}
 use Rattle.message.specs.declared.value.Message.{Message}
 use Rattle.message.specs.Head.{headFits, carried}
 use Rattle.message.specs.Message.{messageFits}
@@ -56,13 +54,13 @@ use Rattle.controller.specs.Start.{startAt, startEstimates, startOf, started}
 use Rattle.controller.specs.Merge.{runBit, merged}
 use Rattle.controller.specs.Effects.{inPhase, begun, added, mergedIn, adopting, seated, counted, issuing, applied}
 use Rattle.controller.specs.Step.{inputsFit, stepped}
-use Rattle.controller_laws.specs.Ways.{Busy, Early, Votes, Leads, Goes}
+use Rattle.controller_laws.specs.Ways.{Busy, Votes, Leads, Goes}
 use Rattle.controller_laws.specs.Ways.Votes.{another's, ours}
 use Rattle.controller_laws.specs.Ways.Leads.{refused, unchanged, begins, adds, replies, merges, updates, adopts-idle, adopts-before, adopts-past, asks, adverts, asks-and-adverts, collected, lapses, counts, open-still, behind, lacking, issues, restarts}
 use Rattle.controller_laws.specs.Ways.Goes.{out, led}
 use Rattle.controller_laws.proofs.Held.{none-fit, more-fit, merged-fit}
 use Rattle.controller_laws.proofs.Masks.{run-bit-low, run-bit-below, or-above, or-below}
-use Rattle.controller_laws.proofs.Valid.{five, Sized, sized, first-high, Lawful, legal-facts, legal-made, seats-length, seated-fit, unseated-fit, unseated, Own, phase-legal, phase-own, phase-made, Valid, valid-facts, valid-made}
+use Rattle.controller_laws.proofs.Valid.{five, sized, first-high, legal-facts, legal-made, seats-length, seated-fit, unseated-fit, unseated, Own, phase-legal, phase-own, phase-made, Valid, valid-facts, valid-made}
 use Rattle.controller_laws.proofs.Ways.{goes}
 
 -- ---- a start

@@ -8,12 +8,11 @@ use mathlib.Core.Bool.{Bool, true, false, _&&_, _||_, or-true, or-false}
 use mathlib.Core.List.{List}
 use mathlib.Core.Logic.{by-cases}
 use lib.Bits.{bitAnd, bitOr}
-use lib.Dec.{eqb, leb}
+use lib.Dec.{eqb}
 use lib.ListN.{length, getD, set, replicate, length-set, getD-replicate}
 use lib.Pow.{pow-pos}
 use lib.Seq.{getD-set-same, getD-set-other}
 use borrow.Author.Tests.{eqb-true, eq-eqb, le-leb}
-use Rattle.units.specs.Every.{every}
 use Rattle.units.specs.Limits.{rawTop}
 use Rattle.units.specs.Mask.{inMask}
 use Rattle.units.proofs.Every.{and-left, and-right, every-at, every-all}

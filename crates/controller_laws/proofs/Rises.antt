@@ -1,9 +1,9 @@
 -- Within one life the labels never fall and the own number stays; an early phase comes of a new label or of an early phase. Assumes nothing.
-use Prim.Native.Nat.{ℕ, _≤_, _<_}
-use native.Mathlib.Nat.{le-refl, le-of-lt, le-of-eq, le-trans}
+use Prim.Native.Nat.{_≤_, _<_}
+use native.Mathlib.Nat.{le-refl, le-of-lt}
 use native.Mathlib.Omega.{arith}
-use mathlib.Core.Path.{_≡_, refl, sym, ap, subst, _∙_}
-use mathlib.Core.Bool.{Bool, true, false, _&&_}
+use mathlib.Core.Path.{_≡_, refl, sym, subst}
+use mathlib.Core.Bool.{true}
 use mathlib.Core.Logic.{_⊎_, inl, inr}
 use lib.Bits.{bitAnd}
 use lib.Dec.{eqb}
@@ -14,7 +14,6 @@ use Rattle.units.proofs.Every.{and-right}
 use Rattle.vote.specs.declared.digest.Digest.{Digest}
 use Rattle.message.specs.declared.head.Head.{Head}
 use Rattle.message.specs.declared.value.Message.{Message}
-use Rattle.plan.specs.declared.brief.Phase.{Phase}
 use Rattle.plan.specs.declared.planned.Effect.{Effect}
 use Rattle.plan.specs.declared.planned.Plan.{Plan}
 use Rattle.plan.specs.declared.planned.Sent.{Sent}
@@ -27,7 +26,7 @@ use Rattle.controller.specs.State.{briefOf}
 use Rattle.controller.specs.Effects.{applied}
 use Rattle.controller.specs.Step.{stepped}
 use Rattle.controller_laws.specs.Changes.{NoStart}
-use Rattle.controller_laws.specs.Ways.{Early, Votes, Leads, Goes}
+use Rattle.controller_laws.specs.Ways.{Early, Leads, Goes}
 use Rattle.controller_laws.specs.Ways.Leads.{refused, unchanged, begins, adds, replies, merges, updates, adopts-idle, adopts-before, adopts-past, asks, adverts, asks-and-adverts, collected, lapses, counts, open-still, behind, lacking, issues, restarts}
 use Rattle.controller_laws.specs.Ways.Goes.{out, led}
 use Rattle.controller_laws.proofs.Ways.{goes}

@@ -1,21 +1,18 @@
 -- EVERY MESSAGE SENT IS IN RANGE, so that it can be written; and nothing is sent but what document 01 names. Assumes nothing.
-use Prim.Native.Nat.{ℕ, _-_, _≤_, _<_}
+use Prim.Native.Nat.{ℕ, _-_}
 use native.Mathlib.Omega.{arith}
-use mathlib.Core.Path.{_≡_, refl, sym, ap, subst, _∙_}
-use mathlib.Core.Bool.{Bool, true, false, _&&_}
-use mathlib.Core.List.{List}
+use mathlib.Core.Path.{_≡_, refl, ap, subst, _∙_}
+use mathlib.Core.Bool.{Bool, true, _&&_}
 use mathlib.Core.Logic.{_⊎_, ⊎-elim}
 use lib.Bits.{bitAnd, and-le-r}
-use lib.Ieee.{Float, nan}
-use lib.ListN.{getD, replicate, getD-replicate}
+use lib.Ieee.{nan}
+use lib.ListN.{replicate, getD-replicate}
 use borrow.Author.Tests.{lt-ltb, le-leb}
-use Rattle.units.specs.declared.estimate.Estimate.{Estimate}
-use Rattle.units.specs.declared.labels.RoundLabel.{RoundLabel}
 use Rattle.units.specs.declared.settings.Group.{Group}
 use Rattle.units.specs.declared.settings.Numbers.{Numbers}
 use Rattle.units.specs.Labels.{roundFits}
 use Rattle.units.specs.Limits.{runsTop, labelTop}
-use Rattle.units.specs.Mask.{maskEnd, maskFits}
+use Rattle.units.specs.Mask.{maskEnd}
 use Rattle.units.specs.Settings.{groupFits, numbersFit}
 use Rattle.units.proofs.Masks.{some-mask}
 use Rattle.floats.specs.Bits.{nought}
@@ -23,7 +20,6 @@ use Rattle.floats.specs.Ranges.{blank, noEstimate, stateFits, targetsFit}
 use Rattle.floats.proofs.Places.{state-made, targets-made}
 use Rattle.vote.specs.declared.digest.Digest.{Digest}
 use Rattle.vote.specs.declared.judge.Decision.the-variants.{Decided}
-use Rattle.vote.specs.Digest.{legal}
 use Rattle.filter.specs.Compute.{newTotal, setPoints, computed}
 use Rattle.filter.proofs.Laws.{given-range}
 use Rattle.message.specs.declared.head.Carried.{Carried}
@@ -33,7 +29,7 @@ use Rattle.message.specs.declared.value.Message.{Message}
 use Rattle.message.specs.Head.{headFits, carry, carried}
 use Rattle.message.specs.Message.{plain, messageFits}
 use Rattle.message.specs.Readings.{readingsFit}
-use Rattle.plan.specs.declared.brief.Phase.the-variants.{Idle, Collecting}
+use Rattle.plan.specs.declared.brief.Phase.the-variants.{Idle}
 use Rattle.plan.specs.declared.planned.Effect.the-variants.{Issue}
 use Rattle.plan.specs.declared.planned.Plan.{Plan}
 use Rattle.plan.specs.declared.planned.Sent.{Sent}
@@ -57,7 +53,7 @@ use Rattle.controller_laws.specs.Ways.Goes.{out, led}
 use Rattle.controller_laws.proofs.Decided.{decided-legal}
 use Rattle.controller_laws.proofs.Fits.{own-legal, inputs}
 use Rattle.controller_laws.proofs.Held.{none-fit, selected-fit}
-use Rattle.controller_laws.proofs.Valid.{and-both, sized, group-fits, legal-facts, Valid}
+use Rattle.controller_laws.proofs.Valid.{and-both, group-fits, legal-facts, Valid}
 use Rattle.controller_laws.proofs.Ways.{goes}
 
 -- ---- arrays that a message does not use
@@ -139,10 +135,6 @@ module _ (s : Numbers) (c : Controller) (fit : numbersFit s ≡ true) (v : Valid
     -- what holds of all that a plan sends, on the controller after it
     abbrev AllReady : Plan → Type 0
     AllReady p = OnSent (Ready (applied s a c (p .effect))) (p .first) × OnSent (Ready (applied s a c (p .effect))) (p .second)
-
-    voting : {h : Head} {seat : ℕ} {digest : Digest} {first : Sent} → Votes c h seat digest first → Busy (c .phase)
-    voting (another's n e f) = rw e tt
-    voting (ours e) = rw e tt
 
     -- what goes out with a vote
     with-vote : {h : Head} {seat : ℕ} {digest : Digest} {first : Sent} (n : Controller) → Votes c h seat digest first → OnSent (Ready n) first

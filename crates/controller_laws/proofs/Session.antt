@@ -29,7 +29,7 @@ use Rattle.controller.specs.Merge.{runBit}
 use Rattle.controller.specs.Effects.{applied}
 use Rattle.controller.specs.Sent.{sentMessage}
 use Rattle.controller.specs.Step.{judgedIn, judgedPlan, planned, inputsFit, stepped}
-use Rattle.controller_laws.specs.Session.{estimateBits, line, whole, said, chain, numbers, first, lines, answers}
+use Rattle.controller_laws.specs.Session.{estimateBits, line, whole, said, chain, numbers, lines, answers}
 
 -- every message sent, as a whole value, float by float, and every number
 pub session : chain numbers (startOf numbers 0 (record { 0 = 0 })) lines ≡ answers

@@ -7,13 +7,12 @@ use mathlib.Core.Bool.{Bool, true, false, not, _&&_}
 use mathlib.Core.List.{List}
 use mathlib.Core.Logic.{by-cases}
 use lib.Dec.{eqb, leb, ltb}
-use lib.ListN.{length, getD, set, replicate, length-set, getD-replicate}
+use lib.ListN.{length, getD, replicate, length-set, getD-replicate}
 use lib.Seq.{getD-set-same, getD-set-other}
 use borrow.Author.Tests.{eqb-true, eq-eqb, leb-true, le-leb, ltb-true, lt-ltb, not-true}
 use Rattle.units.specs.declared.labels.RoundLabel.{RoundLabel}
 use Rattle.units.specs.declared.settings.Group.{Group}
 use Rattle.units.specs.declared.settings.Numbers.{Numbers}
-use Rattle.units.specs.Every.{every}
 use Rattle.units.specs.Labels.{before, floorFits, stateLabelFits}
 use Rattle.units.specs.Limits.{controllersTop, runsTop, labelTop, noiseTop, firstTop}
 use Rattle.units.specs.Mask.{maskEnd, maskFits}
@@ -23,7 +22,7 @@ use Rattle.units.proofs.Every.{and-left, and-right, every-at, every-all}
 use Rattle.floats.specs.Ranges.{stateFits}
 use Rattle.vote.specs.declared.digest.Digest.{Digest}
 use Rattle.vote.specs.declared.votes.Ballot.{Ballot}
-use Rattle.vote.specs.declared.votes.Ballot.the-variants.{Missing, Cast}
+use Rattle.vote.specs.declared.votes.Ballot.the-variants.{Cast}
 use Rattle.vote.specs.declared.votes.Seat.{Seat}
 use Rattle.vote.specs.Digest.{legal}
 use Rattle.vote.specs.Vote.{seatFits, seatAt, seatsFit}
@@ -57,9 +56,7 @@ eight a b c d e f g h p =
 
 -- ---- the settings
 pub record Sized (s : Group) : Type 0 where
-  pub g-low : 1 ≤ s .g
   pub g-high : s .g ≤ controllersTop
-  pub m-low : 1 ≤ s .m
   pub m-high : s .m ≤ runsTop
 
 module _ (s : Numbers) (h : numbersFit s ≡ true) where
@@ -79,9 +76,7 @@ module _ (s : Numbers) (h : numbersFit s ≡ true) where
       let l = and-left (within 1 controllersTop (s .group .g)) (within 1 runsTop (s .group .m)) group-fits in
       let r = and-right (within 1 controllersTop (s .group .g)) (within 1 runsTop (s .group .m)) group-fits in
       record {
-        g-low = leb-true _ _ (and-left (leb 1 (s .group .g)) _ l);
         g-high = leb-true _ _ (and-right (leb 1 (s .group .g)) _ l);
-        m-low = leb-true _ _ (and-left (leb 1 (s .group .m)) _ r);
         m-high = leb-true _ _ (and-right (leb 1 (s .group .m)) _ r);
       }
 

@@ -1,8 +1,7 @@
 -- Every step goes one of the ways of specs/Ways.antt. Assumes nothing.
 use Prim.Native.Nat.{ℕ, _<_}
-use mathlib.Core.Path.{_≡_, refl, sym, ap, subst, _∙_}
+use mathlib.Core.Path.{_≡_, refl, sym, subst}
 use mathlib.Core.Bool.{Bool, true, false, not}
-use mathlib.Core.List.{List}
 use native.Mathlib.Omega.{arith}
 use lib.Bits.{bitAnd}
 use lib.Dec.{eqb, ltb}
@@ -10,8 +9,7 @@ use lib.ListN.{getD}
 use borrow.Author.Tests.{ltb-true, ltb-false, eqb-true, eqb-false, not-true, not-false}
 use Rattle.units.specs.declared.labels.RoundLabel.{RoundLabel}
 use Rattle.units.specs.declared.labels.StateLabel.{StateLabel}
-use Rattle.units.specs.declared.refusal.Refusal.{Refusal}
-use Rattle.units.specs.declared.refusal.Refusal.the-variants.{Kind, Own, Late, Closed, Other, Clash, Range}
+use Rattle.units.specs.declared.refusal.Refusal.the-variants.{Kind, Own, Late, Closed, Other, Clash}
 use Rattle.units.specs.declared.settings.Numbers.{Numbers}
 use Rattle.units.specs.Labels.{before, justBefore}
 use Rattle.units.specs.Mask.{inMask}
@@ -32,17 +30,16 @@ use Rattle.plan.specs.declared.brief.Phase.the-variants.{Idle, Collecting, Pend
 use Rattle.plan.specs.declared.planned.Effect.the-variants.{Keep, Adopt, Count}
 use Rattle.plan.specs.declared.planned.Plan.{Plan}
 use Rattle.plan.specs.declared.planned.Sent.{Sent}
-use Rattle.plan.specs.declared.planned.Sent.the-variants.{Nothing, One}
-use Rattle.plan.specs.Plan.{refuse, does, sends}
+use Rattle.plan.specs.Plan.{refuse, does}
 use Rattle.plan.specs.Readings
 use Rattle.plan.specs.Readings.{sameRound, planReading, answered, inQuery, planQuery, inReply, planReply}
 use Rattle.plan.specs.States.{planAdvert, overtaken, adopted, inUpdate, planUpdate, planSetpoints}
 use Rattle.plan.specs.Timers.{missingRuns, asking, inDue, planDue, inEnds, planEnds, inVotingEnds, planVotingEnds}
-use Rattle.plan.specs.Votes.{ownDigest, inFloor, planFloor, inSeat, inDigest, planDigest, possessed, chosenPlan, judged}
+use Rattle.plan.specs.Votes.{inFloor, planFloor, inSeat, inDigest, planDigest, possessed, chosenPlan, judged}
 use Rattle.controller.specs.declared.state.Controller.{Controller}
 use Rattle.controller.specs.State.{briefOf, ballotAt}
-use Rattle.controller.specs.Step.{decided, judgedIn, judgedPlan, votePlan, clashing, planned, inputsFit, carriedOut, stepped}
-use Rattle.controller_laws.specs.Ways.{Busy, Early, Free, Votes, Leads, Goes}
+use Rattle.controller.specs.Step.{decided, judgedIn, judgedPlan, votePlan, clashing, planned, inputsFit, stepped}
+use Rattle.controller_laws.specs.Ways.{Busy, Free, Votes, Leads, Goes}
 use Rattle.controller_laws.specs.Ways.Votes.{another's, ours}
 use Rattle.controller_laws.specs.Ways.Leads.{refused, unchanged, begins, adds, replies, merges, updates, adopts-idle, adopts-before, adopts-past, asks, adverts, asks-and-adverts, collected, lapses, counts, open-still, behind, lacking, issues, restarts}
 use Rattle.controller_laws.specs.Ways.Goes.{out, led}

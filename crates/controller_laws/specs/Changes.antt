@@ -1,7 +1,7 @@
 -- "What a step doesn't name stays": where each reading, each vote and the state after a step come from.
 use Prim.Native.Nat.{ℕ, _<_}
 use mathlib.Core.Path.{_≡_}
-use mathlib.Core.Bool.{true, false}
+use mathlib.Core.Bool.{true}
 use lib.ListN.{getD}
 use Rattle.units.specs.declared.labels.RoundLabel.{RoundLabel}
 use Rattle.units.specs.declared.settings.Numbers.{Numbers}
@@ -14,7 +14,7 @@ use Rattle.filter.specs.Compute.{newState}
 use Rattle.message.specs.declared.head.Head.{Head}
 use Rattle.message.specs.declared.head.Head.the-variants.{Reading, Reply, Update, Vote, Floor, Start}
 use Rattle.message.specs.declared.value.Message.{Message}
-use Rattle.plan.specs.declared.brief.Phase.the-variants.{Idle, Pending}
+use Rattle.plan.specs.declared.brief.Phase.the-variants.{Pending}
 use Rattle.plan.specs.declared.planned.Sent.{Sent}
 use Rattle.plan.specs.declared.planned.Sent.the-variants.{One}
 use Rattle.plan.specs.Votes.{ownDigest, possessed}
