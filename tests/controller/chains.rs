@@ -15,105 +15,105 @@ const WEIGHTS: [u32; M] = [3, 1, 1000];
 /// The chain: a kind, up to four values, and what it is there for.
 const CHAIN: [(&str, [u32; 4]); 106] = [
     ("M", [1, 0, 200000, 0]), // a first round
-    ("C", [1, 0, 0, 0]), // asks for two runs, no A: the state is label - 1
-    ("R", [1, 1, 6, 500]), // runs 1 and 2
-    ("R", [2, 1, 6, 500]), // the same again
-    ("R", [2, 1, 7, 500]), // run 0 clashes, so nothing is added
-    ("M", [1, 1, 600, 0]), // the same reading again
-    ("M", [1, 1, 601, 0]), // another
-    ("Q", [1, 1, 5, 0]), // replies with two runs
-    ("Q", [0, 1, 5, 0]), // own number
-    ("F", [1, 0, 0, 0]), // not pending
-    ("E", [1, 0, 0, 0]), // F goes out
-    ("M", [1, 1, 600, 0]), // closed
-    ("R", [1, 1, 6, 500]), // closed while pending
-    ("C", [1, 0, 0, 0]), // closed while pending
-    ("E", [1, 0, 0, 0]), // closed while pending
-    ("U", [1, 9, 100, 5]), // closed while pending
-    ("D", [1, 1, 0, 7]), // before our vote
-    ("D", [1, 1, 0, 7]), // again
-    ("D", [1, 1, 0, 3]), // another
-    ("F", [1, 0, 0, 0]), // our vote, decided: S
-    ("M", [1, 2, 700, 0]), // late
-    ("D", [2, 1, 0, 7]), // idle
-    ("Q", [1, 1, 5, 0]), // idle
-    ("A", [1, 0, 0, 0]), // U
-    ("A", [1, 1, 0, 0]), // nothing to send
-    ("A", [0, 0, 0, 0]), // own number
+    ("C", [1, 0, 0, 0]),      // asks for two runs, no A: the state is label - 1
+    ("R", [1, 1, 6, 500]),    // runs 1 and 2
+    ("R", [2, 1, 6, 500]),    // the same again
+    ("R", [2, 1, 7, 500]),    // run 0 clashes, so nothing is added
+    ("M", [1, 1, 600, 0]),    // the same reading again
+    ("M", [1, 1, 601, 0]),    // another
+    ("Q", [1, 1, 5, 0]),      // replies with two runs
+    ("Q", [0, 1, 5, 0]),      // own number
+    ("F", [1, 0, 0, 0]),      // not pending
+    ("E", [1, 0, 0, 0]),      // F goes out
+    ("M", [1, 1, 600, 0]),    // closed
+    ("R", [1, 1, 6, 500]),    // closed while pending
+    ("C", [1, 0, 0, 0]),      // closed while pending
+    ("E", [1, 0, 0, 0]),      // closed while pending
+    ("U", [1, 9, 100, 5]),    // closed while pending
+    ("D", [1, 1, 0, 7]),      // before our vote
+    ("D", [1, 1, 0, 7]),      // again
+    ("D", [1, 1, 0, 3]),      // another
+    ("F", [1, 0, 0, 0]),      // our vote, decided: S
+    ("M", [1, 2, 700, 0]),    // late
+    ("D", [2, 1, 0, 7]),      // idle
+    ("Q", [1, 1, 5, 0]),      // idle
+    ("A", [1, 0, 0, 0]),      // U
+    ("A", [1, 1, 0, 0]),      // nothing to send
+    ("A", [0, 0, 0, 0]),      // own number
     ("M", [3, 0, 210000, 0]), // a second round, label 2 left out
-    ("C", [3, 0, 0, 0]), // asks for two runs, and A
+    ("C", [3, 0, 0, 0]),      // asks for two runs, and A
     ("M", [3, 2, 190000, 0]), // run 2
-    ("C", [3, 0, 0, 0]), // asks for run 1, and A
-    ("E", [2, 0, 0, 0]), // another label
-    ("E", [3, 0, 0, 0]), // F goes out
-    ("F", [3, 0, 0, 0]), // our vote
-    ("D", [1, 3, 1, 1]), // undecided still
-    ("U", [1, 9, 100, 5]), // closed while voting
-    ("D", [2, 3, 1, 5]), // late, decided for ours: S
-    ("M", [4, 0, 1000, 0]), // a third round
+    ("C", [3, 0, 0, 0]),      // asks for run 1, and A
+    ("E", [2, 0, 0, 0]),      // another label
+    ("E", [3, 0, 0, 0]),      // F goes out
+    ("F", [3, 0, 0, 0]),      // our vote
+    ("D", [1, 3, 1, 1]),      // undecided still
+    ("U", [1, 9, 100, 5]),    // closed while voting
+    ("D", [2, 3, 1, 5]),      // late, decided for ours: S
+    ("M", [4, 0, 1000, 0]),   // a third round
     ("E", [4, 0, 0, 0]),
     ("V", [4, 0, 0, 0]), // not voting
     ("F", [4, 0, 0, 0]),
-    ("V", [5, 0, 0, 0]), // another label
-    ("V", [4, 0, 0, 0]), // 12
+    ("V", [5, 0, 0, 0]),    // another label
+    ("V", [4, 0, 0, 0]),    // 12
     ("M", [4, 1, 1000, 0]), // late: idle at that label
     ("M", [5, 0, 1000, 0]), // a fourth round
     ("E", [5, 0, 0, 0]),
     ("F", [5, 0, 0, 0]),
-    ("D", [1, 5, 3, 3]), // undecided
-    ("D", [2, 5, 3, 3]), // decided, run 1 isn't here: 13
-    ("D", [2, 5, 3, 3]), // idle
+    ("D", [1, 5, 3, 3]),    // undecided
+    ("D", [2, 5, 3, 3]),    // decided, run 1 isn't here: 13
+    ("D", [2, 5, 3, 3]),    // idle
     ("M", [6, 0, 1000, 0]), // a fifth round
     ("D", [1, 6, 5, 7]),
     ("D", [2, 6, 5, 7]),
     ("E", [6, 0, 0, 0]),
-    ("F", [6, 0, 0, 0]), // our vote, decided for a state that isn't here: D and 13
-    ("M", [7, 0, 1000, 0]), // a sixth round
-    ("U", [1, 3, 100, 5]), // equal label, other bits: 11
-    ("U", [1, 2, 100, 5]), // lower: nothing
-    ("U", [1, 5, 100, 5]), // higher, before the round
-    ("U", [2, 5, 100, 5]), // the same again
-    ("U", [2, 7, 300, 9]), // at the round's label: idle
-    ("M", [7, 1, 1000, 0]), // late
-    ("U", [0, 8, 100, 5]), // own number
-    ("U", [1, 9, 77, 3]), // idle: above the label
-    ("M", [8, 1, 1000, 0]), // at or below the state label
-    ("M", [9, 1, 1000, 0]), // at or below the state label
+    ("F", [6, 0, 0, 0]),       // our vote, decided for a state that isn't here: D and 13
+    ("M", [7, 0, 1000, 0]),    // a sixth round
+    ("U", [1, 3, 100, 5]),     // equal label, other bits: 11
+    ("U", [1, 2, 100, 5]),     // lower: nothing
+    ("U", [1, 5, 100, 5]),     // higher, before the round
+    ("U", [2, 5, 100, 5]),     // the same again
+    ("U", [2, 7, 300, 9]),     // at the round's label: idle
+    ("M", [7, 1, 1000, 0]),    // late
+    ("U", [0, 8, 100, 5]),     // own number
+    ("U", [1, 9, 77, 3]),      // idle: above the label
+    ("M", [8, 1, 1000, 0]),    // at or below the state label
+    ("M", [9, 1, 1000, 0]),    // at or below the state label
     ("M", [10, 1, 123456, 0]), // a round on the state of 9
     ("M", [11, 1, 123457, 0]), // a new label drops it
-    ("D", [1, 10, 9, 2]), // another label
+    ("D", [1, 10, 9, 2]),      // another label
     ("E", [11, 0, 0, 0]),
     ("D", [1, 11, 9, 2]),
-    ("D", [2, 11, 9, 2]), // pending, not judged
-    ("F", [11, 0, 0, 0]), // all three agree: D and S
-    ("M", [12, 3, 5, 0]), // no such run
+    ("D", [2, 11, 9, 2]),       // pending, not judged
+    ("F", [11, 0, 0, 0]),       // all three agree: D and S
+    ("M", [12, 3, 5, 0]),       // no such run
     ("M", [12, 0, 1000001, 0]), // raw too large
-    ("M", [0, 0, 5, 0]), // label 0
-    ("Q", [1, 11, 8, 0]), // no such run
-    ("D", [1, 11, 11, 7]), // the state label isn't below the label
-    ("D", [3, 11, 10, 7]), // no such controller
-    ("B", [3, 0, 0, 0]), // no such controller
-    ("S", [1, 11, 10, 7]), // another's S
-    ("S", [0, 11, 10, 7]), // our own
-    ("X", [9, 0, 0, 0]), // of no kind here
-    ("M", [12, 0, 5, 0]), // a round that the restart drops
-    ("B", [2, 12, 0, 0]), // restart as 2, at a floor
-    ("M", [12, 0, 5, 0]), // late: idle at the floor
-    ("M", [13, 0, 5, 0]), // a round on the empty state
+    ("M", [0, 0, 5, 0]),        // label 0
+    ("Q", [1, 11, 8, 0]),       // no such run
+    ("D", [1, 11, 11, 7]),      // the state label isn't below the label
+    ("D", [3, 11, 10, 7]),      // no such controller
+    ("B", [3, 0, 0, 0]),        // no such controller
+    ("S", [1, 11, 10, 7]),      // another's S
+    ("S", [0, 11, 10, 7]),      // our own
+    ("X", [9, 0, 0, 0]),        // of no kind here
+    ("M", [12, 0, 5, 0]),       // a round that the restart drops
+    ("B", [2, 12, 0, 0]),       // restart as 2, at a floor
+    ("M", [12, 0, 5, 0]),       // late: idle at the floor
+    ("M", [13, 0, 5, 0]),       // a round on the empty state
     ("E", [13, 0, 0, 0]),
     ("F", [13, 0, 0, 0]),
     ("D", [0, 13, 12, 7]), // the full digest
-    ("Q", [0, 13, 7, 0]), // replies while voting
-    ("M", [14, 0, 5, 0]), // above the label while voting: a new round
+    ("Q", [0, 13, 7, 0]),  // replies while voting
+    ("M", [14, 0, 5, 0]),  // above the label while voting: a new round
     ("D", [0, 14, 13, 7]),
     ("E", [14, 0, 0, 0]),
     ("F", [14, 0, 0, 0]),
     ("D", [1, 14, 13, 7]), // twice the full digest: decided, 13
-    ("B", [1, 0, 0, 0]), // restart as 1, at 0
-    ("M", [1, 0, 0, 0]), // a round of noughts
+    ("B", [1, 0, 0, 0]),   // restart as 1, at 0
+    ("M", [1, 0, 0, 0]),   // a round of noughts
     ("E", [1, 0, 0, 0]),
     ("D", [0, 1, 0, 1]),
-    ("F", [1, 0, 0, 0]), // decided: S of noughts
+    ("F", [1, 0, 0, 0]),                // decided: S of noughts
     ("M", [4294967295, 2, 1000000, 0]), // the last label
     ("C", [4294967295, 0, 0, 0]),
     ("E", [4294967295, 0, 0, 0]),
@@ -171,7 +171,8 @@ fn winner(votes: &[Option<Digest>; G]) -> Option<Digest> {
 /// digests that nobody voted only the largest matters, and with three controllers it is among these.
 fn legal(votes: &[Option<Digest>; G], label: u32) -> Vec<Option<Digest>> {
     let states = (0..4u32).chain((1..=4u32).map(|k| label.saturating_sub(k))).filter(|state| *state < label);
-    let mut found: Vec<Option<Digest>> = states.flat_map(|state| (1..1u32 << M).map(move |mask| Some(digest(state, mask)))).collect();
+    let mut found: Vec<Option<Digest>> =
+        states.flat_map(|state| (1..1u32 << M).map(move |mask| Some(digest(state, mask)))).collect();
     found.extend(votes.iter().filter(|v| v.is_some()));
     found.push(None);
     found
@@ -184,7 +185,16 @@ fn decided(votes: &[Option<Digest>; G], label: u32) -> Option<Digest> {
     let mut all = vec![*votes];
     for seat in 0..G {
         if votes[seat].is_none() {
-            all = all.iter().flat_map(|v| options.iter().map(move |d| { let mut w = *v; w[seat] = *d; w })).collect();
+            all = all
+                .iter()
+                .flat_map(|v| {
+                    options.iter().map(move |d| {
+                        let mut w = *v;
+                        w[seat] = *d;
+                        w
+                    })
+                })
+                .collect();
         }
     }
     all.iter().all(|v| winner(v) == Some(sought)).then_some(sought)
@@ -228,7 +238,11 @@ fn targets(state: &[(f64, f64); M]) -> [f64; M] {
     let sum = f64::from(WEIGHTS.iter().sum::<u32>());
     std::array::from_fn(|i| {
         let share = total * f64::from(WEIGHTS[i]) / sum;
-        if share > total { total } else { share }
+        if share > total {
+            total
+        } else {
+            share
+        }
     })
 }
 
@@ -332,7 +346,8 @@ impl Controller {
             return 8;
         }
         if label > self.label {
-            *self = Controller { label, phase: Phase::Collecting, readings: [None; M], votes: [None; G], ..self.clone() };
+            *self =
+                Controller { label, phase: Phase::Collecting, readings: [None; M], votes: [None; G], ..self.clone() };
         }
         if self.phase != Phase::Collecting {
             return 9;
@@ -367,7 +382,8 @@ impl Controller {
     }
 
     fn reply(&mut self, mask: u32, first: u32) -> u32 {
-        let said: Vec<(usize, u32)> = (0..M).filter(|i| mask >> i & 1 == 1).map(|i| (i, first + 100 * i as u32)).collect();
+        let said: Vec<(usize, u32)> =
+            (0..M).filter(|i| mask >> i & 1 == 1).map(|i| (i, first + 100 * i as u32)).collect();
         if said.iter().any(|(i, raw)| self.readings[*i].is_some_and(|held| held != *raw)) {
             return 11;
         }
@@ -405,7 +421,11 @@ impl Controller {
             return 11;
         }
         self.votes[sender] = Some(said);
-        if self.phase == Phase::Voting { self.judge(out) } else { 0 }
+        if self.phase == Phase::Voting {
+            self.judge(out)
+        } else {
+            0
+        }
     }
 
     fn judge(&mut self, out: &mut String) -> u32 {

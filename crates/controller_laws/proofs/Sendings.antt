@@ -44,9 +44,9 @@ use Rattle.controller.specs.Merge.{selected}
 use Rattle.controller.specs.Effects.{counted, issuing, applied}
 use Rattle.controller.specs.Sent.{withReadings, withEstimates, withTargets, sentMessage}
 use Rattle.controller.specs.Step.{decided, votesWith, stepped}
-use Rattle.controller_laws.specs.Sendings.{IsSent, MaySend, OnSent}
+use Rattle.controller_laws.specs.Sendings.{IsSent, MaySend, OnSent, IsVote, Voted}
 use Rattle.controller_laws.specs.Sendings.MaySend.{reply, update, query, advert, floor, vote, setpoints}
-use Rattle.controller_laws.specs.Ways.{Busy, Votes, Leads, Goes}
+use Rattle.controller_laws.specs.Ways.{Busy, Early, Votes, Leads, Goes}
 use Rattle.controller_laws.specs.Ways.Votes.{another's, ours}
 use Rattle.controller_laws.specs.Ways.Leads.{refused, unchanged, begins, adds, replies, merges, updates, adopts-idle, adopts-before, adopts-past, asks, adverts, asks-and-adverts, collected, lapses, counts, open-still, behind, lacking, issues, restarts}
 use Rattle.controller_laws.specs.Ways.Goes.{out, led}
@@ -261,3 +261,51 @@ module _ (s : Numbers) (c : Controller) (a : Message) where
       way : {r : Answer} → Goes s c a r → r .first ≡ Nothing → r .second ≡ Nothing
       way (out e) q = refl
       way (led e w) q = in-order w q
+
+  -- ---- our vote goes out once
+  abbrev Once : Head → Plan → Type 0
+  Once h p = OnSent (λ x. IsVote x → Voted c h (applied s a c (p .effect))) (p .first) × OnSent (λ x. IsVote x → Voted c h (applied s a c (p .effect))) (p .second)
+
+  -- with a vote taken in, in a phase that is not early
+  with-vote-once : {h : Head} {seat : ℕ} {digest : Digest} {first : Sent} (n : Controller) → Votes c h seat digest first → n .label ≡ c .label → (Early (n .phase) → ⊥)
+      → OnSent (λ x. IsVote x → Voted c h n) first
+  with-vote-once n (another's k e f) l q = tt
+  with-vote-once n (ours e) l q = λ _. record { by-floor = refl; pending = e; label = l; late = q }
+
+  issue-once : {h : Head} {seat : ℕ} {digest : Digest} {first : Sent} (chosen : Digest) → Votes c h seat digest first
+      → Once h (afterwards (Issue seat digest chosen) (Setpoints (c .own) (c .label) chosen) first)
+  unfolding afterwards applied
+  issue-once chosen (another's n e f) = (λ z. absurd z, tt)
+  issue-once chosen (ours e) = (λ _. record { by-floor = refl; pending = e; label = refl; late = λ z. z }, λ z. absurd z)
+
+  way-once : {h : Head} {p : Plan} → Leads s c a h p → Once h p
+  unfolding applied
+  way-once (refused why e) = (tt, tt)
+  way-once unchanged = (tt, tt)
+  way-once (begins l k) = (tt, tt)
+  way-once (adds e n) = (tt, tt)
+  way-once (replies b n) = (λ z. absurd z, tt)
+  way-once (merges e n) = (tt, tt)
+  way-once (updates l) = (λ z. absurd z, tt)
+  way-once (adopts-idle e l) = (tt, tt)
+  way-once (adopts-before e l k) = (tt, tt)
+  way-once (adopts-past e l k) = (tt, tt)
+  way-once (asks e n) = (λ z. absurd z, tt)
+  way-once (adverts e l) = (λ z. absurd z, tt)
+  way-once (asks-and-adverts e n l) = (λ z. absurd z, λ z. absurd z)
+  way-once (collected e) = (λ z. absurd z, tt)
+  way-once (lapses e) = (tt, tt)
+  way-once (counts n e f) = (tt, tt)
+  way-once (open-still w d) = (with-vote-once _ w refl (λ z. z), tt)
+  way-once (behind w d b) = (with-vote-once _ w refl (λ z. z), tt)
+  way-once (lacking w d b n) = (with-vote-once _ w refl (λ z. z), tt)
+  way-once (issues {chosen = chosen} w d b n) = issue-once chosen w
+  way-once restarts = (tt, tt)
+
+  -- D goes out only by the step that takes our F, and that step leaves the phases before the vote; they come back with a higher label alone (`step-rises`)
+  pub vote-once : (head : Head) → IsSent (stepped s c a) head → IsVote head → Voted c (a .head) (stepped s c a .next)
+  vote-once = way (goes s c a)
+    where
+      way : {r : Answer} → Goes s c a r → (head : Head) → IsSent r head → IsVote head → Voted c (a .head) (r .next)
+      way (out e) = one-of _ Nothing Nothing tt tt
+      way (led {p} e w) = let k = way-once w in one-of _ (p .first) (p .second) (k .0) (k .1)

@@ -8,7 +8,7 @@ use Rattle.units.specs.declared.settings.Numbers.{Numbers}
 use Rattle.vote.specs.declared.digest.Digest.{Digest}
 use Rattle.vote.specs.declared.judge.Decision.the-variants.{Decided}
 use Rattle.message.specs.declared.head.Head.{Head}
-use Rattle.message.specs.declared.head.Head.the-variants.{Query, Reply, Advert, Update, Vote, Setpoints, Due, CollectingEnds, Floor}
+use Rattle.message.specs.declared.head.Head.the-variants.{Reading, Query, Reply, Advert, Update, Vote, Setpoints, Due, CollectingEnds, VotingEnds, Floor, Start, Refused}
 use Rattle.plan.specs.declared.brief.Phase.the-variants.{Collecting, Pending}
 use Rattle.plan.specs.declared.planned.Sent.{Sent}
 use Rattle.plan.specs.declared.planned.Sent.the-variants.{Nothing, One}
@@ -18,7 +18,7 @@ use Rattle.controller.specs.declared.state.Controller.{Controller}
 use Rattle.controller.specs.declared.step.Answer.{Answer}
 use Rattle.controller.specs.State.{briefOf}
 use Rattle.controller.specs.Step.{decided}
-use Rattle.controller_laws.specs.Ways.{Busy, Votes}
+use Rattle.controller_laws.specs.Ways.{Busy, Early, Votes}
 
 -- one of an answer's up to two messages
 abbrev pub IsSent : Answer → Head → Type 0
@@ -39,3 +39,26 @@ pub data MaySend (s : Numbers) (c : Controller) : Head → Head → Type 0 where
 abbrev pub OnSent : (Head → Type 0) → Sent → Type 0
 OnSent P Nothing = Unit {0}
 OnSent P (One head) = P head
+
+-- the message is a D
+abbrev pub IsVote : Head → Type 0
+IsVote (Reading label run raw) = ⊥
+IsVote (Query sender label mask) = ⊥
+IsVote (Reply sender label mask) = ⊥
+IsVote (Advert sender state) = ⊥
+IsVote (Update sender state) = ⊥
+IsVote (Vote sender label digest) = Unit {0}
+IsVote (Setpoints sender label digest) = ⊥
+IsVote (Due label) = ⊥
+IsVote (CollectingEnds label) = ⊥
+IsVote (VotingEnds label) = ⊥
+IsVote (Floor label) = ⊥
+IsVote (Start own low) = ⊥
+IsVote (Refused number) = ⊥
+
+-- the step that let our vote out: it took the F of the current label while pending, and no early phase of that label is left to vote in again
+pub record Voted (c : Controller) (h : Head) (n : Controller) : Type 0 where
+  pub by-floor : h ≡ Floor (c .label)
+  pub pending : c .phase ≡ Pending
+  pub label : n .label ≡ c .label
+  pub late : Early (n .phase) → ⊥
