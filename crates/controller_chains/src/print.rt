@@ -24,7 +24,7 @@ fn field(spelling: Spelling, n: u64) {
     front(&buf, end);
 }
 
-pub fn number(n: u32) {
+pub(crate) fn number(n: u32) {
     field(Spelling::Decimal, n as u64);
 }
 
@@ -54,7 +54,7 @@ fn readings(mask: u32, raws: [u32; 16]) {
 }
 
 // x and P of the first m runs.
-pub fn state(m: usize, estimates: [Estimate; 16]) {
+pub(crate) fn state(m: usize, estimates: [Estimate; 16]) {
     let mut i = 0usize;
     while i < RUNS {
         if i < m {
@@ -78,7 +78,7 @@ fn targets(m: usize, given: [f64; 16]) {
 }
 
 // A message that is sent.
-pub fn message(m: usize, a: Message) {
+pub(crate) fn message(m: usize, a: Message) {
     let head = a.head;
     match head {
         Head::Query {
