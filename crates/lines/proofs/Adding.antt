@@ -5,22 +5,18 @@ use mathlib.Core.List.{List, [], _∷_, _++_, append-assoc, append-nil}
 use mathlib.Core.Bool.{Bool, true, false}
 use native.Mathlib.Omega.{arith}
 use native.Mathlib.Numerals.{add-one}
-use lib.Dec.{eqb}
-use lib.Ieee.{Float, nan}
 use lib.ListN.{length, getD, take, set, length-append, length-set}
 use lib.Seq.{take-suc-set, length-take-le}
-use Rattle.units.specs.declared.estimate.Estimate.{Estimate}
 use Rattle.units.specs.declared.settings.Group.{Group}
 use Rattle.units.specs.Mask.{inMask}
 use Rattle.units.specs.Pick.{pick}
-use Rattle.floats.specs.Ranges.{noEstimate}
 use Rattle.message.specs.declared.head.Head.{Head}
 use Rattle.message.specs.declared.head.Head.the-variants.{Reading, Query, Reply, Advert, Update, Vote, Setpoints, Due, CollectingEnds, VotingEnds, Floor, Start, Refused}
 use Rattle.message.specs.Head.{carried}
 use Rattle.fields.proofs.Cases.{by-test}
 use Rattle.lines.specs.declared.numbers.Numbers.{Numbers}
 use Rattle.lines.specs.Lists.{joined}
-use Rattle.lines.specs.Values.{headValues, rawOf, floatsOf, targetOf}
+use Rattle.lines.specs.Values.{headValues, rawOf}
 use Rattle.lines.proofs.Columns.{no-run}
 
 -- THE HEAD

@@ -1,31 +1,31 @@
 -- The arrays of R, U and S, from a message to its line's numbers and back. Assumes nothing.
-use Prim.Native.Nat.{ℕ, zero, suc, _+_, _-_, _*_, _/_, _%_, _^_, _≤_, _<_}
-use mathlib.Core.Path.{_≡_, refl, sym, ap, _∙_}
+use Prim.Native.Nat.{ℕ, zero, suc, _+_, _*_, _/_, _%_, _^_, _≤_, _<_}
+use mathlib.Core.Path.{_≡_, refl, sym, _∙_}
 use mathlib.Core.List.{List, [], _∷_, _++_, append-assoc, append-nil}
-use mathlib.Core.Bool.{Bool, true, false, _&&_}
+use mathlib.Core.Bool.{Bool, true, false}
 use native.Mathlib.Omega.{arith}
 use native.Mathlib.Numerals.{add-one}
 use native.Mathlib.Nat.{mod-eq-of-lt, add-zero}
 use lib.Count.{ones}
-use lib.Dec.{eqb, leb, ltb}
+use lib.Dec.{eqb}
 use lib.Ieee.{Float, nan}
 use lib.ListN.{length, getD, take, drop, length-append, length-drop, List·getD-append}
-use lib.Seq.{take-suc, take-add, getD-drop, getD-append-add, ext-getD, drop-cons}
-use borrow.Author.Tests.{lt-ltb, le-ltb, leb-true, le-leb, eqb-true, eq-eqb, ltb-true}
+use lib.Seq.{take-suc, getD-drop, getD-append-add}
+use borrow.Author.Tests.{lt-ltb, le-ltb, leb-true, le-leb, eqb-true, eq-eqb}
 use Rattle.units.specs.declared.estimate.Estimate.{Estimate}
 use Rattle.units.specs.Every.{every}
 use Rattle.units.specs.Limits.{rawTop, xTop, varianceTop, targetTop, labelTop}
 use Rattle.units.specs.Mask.{inMask}
 use Rattle.units.specs.Pick.{pick}
 use Rattle.units.proofs.Every.{and-left, and-right, every-at, every-all}
-use Rattle.floats.specs.Bits.{bitsOf, floatOf, nought, xBits, varianceBits, targetBits}
-use Rattle.floats.specs.Ranges.{upTo, estimateFits, blank, noEstimate, stateFits, targetsFit}
-use Rattle.floats.proofs.Limits.{x-limit, variance-limit, target-limit, limit-back, bits-range, range-bits, float-back}
+use Rattle.floats.specs.Bits.{bitsOf, xBits, varianceBits, targetBits}
+use Rattle.floats.specs.Ranges.{noEstimate, stateFits, targetsFit}
+use Rattle.floats.proofs.Limits.{x-limit, variance-limit, target-limit, limit-back, bits-range, float-back}
 use Rattle.floats.proofs.Places.{estimate-x, estimate-variance, estimate-made, state-length, state-run, state-blank, state-made, targets-length, targets-run, targets-blank, targets-made}
 use Rattle.message.specs.Readings.{readingPlace, readingAt, readingsFit}
-use Rattle.fields.proofs.Cases.{by-test, by-lt, absurd-by}
+use Rattle.fields.proofs.Cases.{by-test, by-lt}
 use Rattle.lines.specs.Lists.{column, joined}
-use Rattle.lines.specs.Values.{word, pickWord, tally, readingIn, estimateIn, targetIn, rawOf, floatsOf, targetOf}
+use Rattle.lines.specs.Values.{word, tally, readingIn, estimateIn, targetIn, rawOf, floatsOf, targetOf}
 use Rattle.lines.proofs.Columns.{length-column, getD-column, is-column, bits-step, bits-more, bits-few}
 
 pub word-is : (n : ℕ) → n ≤ labelTop → word n ≡ n

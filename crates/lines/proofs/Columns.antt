@@ -1,21 +1,19 @@
 -- Lists made place by place: their places, and a loop that fills an array with them from the front. Assumes nothing.
-use Prim.Native.Nat.{ℕ, zero, suc, _+_, _-_, _*_, _/_, _%_, _^_, _≤_, _<_}
+use Prim.Native.Nat.{ℕ, zero, suc, _+_, _/_, _%_, _^_, _≤_, _<_}
 use mathlib.Core.Path.{_≡_, refl, sym, ap, _∙_}
-use mathlib.Core.List.{List, [], _∷_, _++_}
-use mathlib.Core.Bool.{Bool, true, false}
+use mathlib.Core.List.{List, [], _∷_}
+use mathlib.Core.Bool.{false}
 use native.Mathlib.Omega.{arith}
-use native.Mathlib.Numerals.{add-one}
-use native.Mathlib.Nat.{mod-lt, zero-div, add-zero}
+use native.Mathlib.Nat.{mod-lt, zero-div}
 use lib.Count.{ones, ones-cat, ones-le}
-use lib.Dec.{eqb, ltb, lit<}
+use lib.Dec.{eqb, lit<}
 use lib.ListN.{length, getD, set, replicate, length-append, length-set, length-replicate, getD-replicate, List·getD-append}
 use lib.Pow.{mod-pow-add, pow-mono}
 use lib.Seq.{ext-getD, getD-append-seam, getD-set-same, getD-set-other}
 use borrow.Author.Tests.{eqb-true, eqb-false}
 use Rattle.units.specs.Mask.{inMask}
-use Rattle.units.specs.Pick.{pick}
 use Rattle.fields.proofs.Cases.{by-test, by-lt}
-use Rattle.lines.specs.Lists.{column, joined}
+use Rattle.lines.specs.Lists.{column}
 use Rattle.lines.specs.Values.{tally}
 
 module _ {A : Type 0} (f : ℕ → A) where

@@ -1,19 +1,19 @@
 -- What the functions need that make a message of a line's numbers. Assumes nothing.
-use Prim.Native.Nat.{ℕ, _+_, _*_, _%_, _^_, _≤_, _<_, min}
-use mathlib.Core.Path.{_≡_, refl, sym, ap, _∙_}
+use Prim.Native.Nat.{ℕ, _+_, _*_, _%_, _^_, _≤_, _<_}
+use mathlib.Core.Path.{_≡_, refl, _∙_}
 use mathlib.Core.List.{List}
 use mathlib.Core.Bool.{Bool, true, false}
 use native.Mathlib.Omega.{arith}
 use lib.Count.{ones}
-use lib.Ieee.{Float, nan}
-use lib.ListN.{length, getD, set}
+use lib.Ieee.{Float}
+use lib.ListN.{getD}
 use borrow.Author.Tests.{lt-ltb, le-ltb}
 use Rattle.units.specs.declared.estimate.Estimate.{Estimate}
 use Rattle.units.specs.declared.settings.Group.{Group}
 use Rattle.units.specs.Mask.{inMask}
 use Rattle.units.specs.Pick.{pick}
 use Rattle.floats.specs.Bits.{floatOf, nought}
-use Rattle.floats.specs.Ranges.{blank, noEstimate}
+use Rattle.floats.specs.Ranges.{blank}
 use Rattle.message.specs.declared.head.Head.{Head}
 use Rattle.message.specs.declared.head.Carried.{Carried}
 use Rattle.message.specs.declared.value.Message.{Message}
@@ -21,8 +21,8 @@ use Rattle.message.specs.Head.{carried}
 use Rattle.lines.specs.declared.kind.Kind.{Kind}
 use Rattle.lines.specs.Lists.{column}
 use Rattle.lines.specs.Table.{runsOf}
-use Rattle.lines.specs.Values.{word, pickWord, tally, headOf, readingIn, estimateIn, targetIn, messageWith, messageOf}
-use Rattle.lines.proofs.Columns.{Filling, fill-start, fill-more, fill-done, column-same, bits-step, bits-few, no-run}
+use Rattle.lines.specs.Values.{pickWord, tally, headOf, readingIn, estimateIn, targetIn, messageWith, messageOf}
+use Rattle.lines.proofs.Columns.{column-same, bits-step, bits-few, no-run}
 
 pub head-in : {kind k : Kind} (a b c d : ℕ) {r : Head} → kind ≡ k → r ≡ headOf k a b c d → r ≡ headOf kind a b c d
 head-in a b c d e h = rw e h

@@ -1,39 +1,36 @@
 -- FROM A LINE'S NUMBERS TO A MESSAGE AND BACK, kind by kind: numbers in range make a message in range that has those numbers. Assumes nothing.
-use Prim.Native.Nat.{ℕ, zero, suc, _+_, _-_, _*_, _%_, _^_, _≤_, _<_, min}
-use mathlib.Core.Path.{_≡_, refl, sym, ap, _∙_}
-use mathlib.Core.List.{List, [], _∷_, _++_, append-assoc, append-nil}
-use mathlib.Core.Bool.{Bool, true, false, _&&_}
+use Prim.Native.Nat.{ℕ, zero, suc, _+_, _*_, _%_, _≤_, _<_}
+use mathlib.Core.Path.{_≡_, refl, ap}
+use mathlib.Core.List.{List, [], _∷_, _++_, append-nil}
+use mathlib.Core.Bool.{true}
 use native.Mathlib.Omega.{arith}
-use native.Mathlib.Nat.{mod-eq-of-lt}
 use lib.Count.{ones}
-use lib.Dec.{eqb, leb, ltb}
-use lib.ListN.{length, getD, take, drop, length-drop}
+use lib.Dec.{leb}
+use lib.ListN.{length, getD, drop, length-drop}
 use lib.Seq.{take-all}
-use borrow.Author.Tests.{leb-true, le-leb, ltb-true, lt-ltb, eq-eqb, ne-eqb}
+use borrow.Author.Tests.{leb-true, le-leb, eq-eqb, ne-eqb}
 use Rattle.units.specs.declared.settings.Group.{Group}
 use Rattle.units.specs.Limits.{labelTop, rawTop}
-use Rattle.units.specs.Mask.{inMask, maskEnd, maskFits}
+use Rattle.units.specs.Mask.{inMask}
 use Rattle.units.specs.Pick.{pick}
 use Rattle.units.specs.Settings.{groupFits}
-use Rattle.units.proofs.Every.{and-left, and-right}
+use Rattle.units.proofs.Every.{and-left}
 use Rattle.floats.specs.Bits.{xBits, varianceBits, targetBits}
 use Rattle.vote.specs.Digest.{legal}
 use Rattle.message.specs.declared.head.Head.{Head}
-use Rattle.message.specs.declared.head.Head.the-variants.{Reading, Query, Reply, Advert, Update, Vote, Setpoints, Due, CollectingEnds, VotingEnds, Floor, Start, Refused}
-use Rattle.message.specs.declared.value.Message.{Message}
+use Rattle.message.specs.declared.head.Head.the-variants.{Reading, Query, Reply, Advert, Update, Vote, Setpoints, Due, CollectingEnds, VotingEnds, Floor, Start}
 use Rattle.message.specs.Head.{carry, carried, headFits}
 use Rattle.message.specs.Message.{messageFits}
-use Rattle.fields.proofs.Cases.{by-test, by-lt, absurd-by}
+use Rattle.fields.proofs.Cases.{by-lt, absurd-by}
 use Rattle.lines.specs.declared.kind.Kind.{Kind}
 use Rattle.lines.specs.declared.kind.Kind.the-variants.{Reading as OfReading, Query as OfQuery, Reply as OfReply, Advert as OfAdvert, Update as OfUpdate, Vote as OfVote, Setpoints as OfSetpoints, Due as OfDue, CollectingEnds as OfCollectingEnds, VotingEnds as OfVotingEnds, Floor as OfFloor, Start as OfStart, Refused as OfRefused, Sizes, Filter, Run}
 use Rattle.lines.specs.declared.table.Quantity.the-variants.{Raw, X, Variance, Target}
-use Rattle.lines.specs.Lists.{column, joined}
-use Rattle.lines.specs.Table.{letterOf, kindOf, quantityAt, countOf, runsOf}
-use Rattle.lines.specs.Values.{word, headOf, messageWith, messageOf, kindIs, headValues, valuesOf}
-use Rattle.lines.proofs.Adding.{no-raws}
+use Rattle.lines.specs.Lists.{joined}
+use Rattle.lines.specs.Table.{kindOf, quantityAt, countOf, runsOf}
+use Rattle.lines.specs.Values.{headOf, messageWith, messageOf, kindIs, headValues, valuesOf}
 use Rattle.lines.proofs.Arrays.{word-is, rank, rawAt, floatsAt, targetAt, readings-fit, estimates-fit, targets-fit, raws-again, floats-again, targets-again, raws-front, floats-front, targets-front, rank-mono, rank-suc}
 use Rattle.lines.proofs.Columns.{no-run}
-use Rattle.lines.proofs.Quantities.{round-said, state-said, sender-said, run-said, base-said, mask-said, mask-word, raw-said, x-said, variance-said, target-said}
+use Rattle.lines.proofs.Quantities.{round-said, state-said, sender-said, run-said, base-said, mask-said, raw-said, x-said, variance-said, target-said}
 use Rattle.lines.proofs.Sending.{group-runs}
 use Rattle.lines.proofs.Spelled.{Fit, FitsAt, fits-each}
 use Rattle.lines.proofs.Wire.{Readable}

@@ -1,10 +1,9 @@
 -- What the reader needs of a line's first field and of its checks before any field. Assumes nothing.
-use Prim.Native.Nat.{ℕ, zero, suc, _+_, _-_, _≤_, _<_}
+use Prim.Native.Nat.{ℕ, _+_, _≤_, _<_}
 use mathlib.Core.Path.{_≡_, refl, sym, ap, _∙_}
-use mathlib.Core.List.{List, [], _∷_, _++_}
+use mathlib.Core.List.{List, [], _∷_}
 use mathlib.Core.Bool.{Bool, true, false, not}
 use native.Mathlib.Omega.{arith}
-use lib.Dec.{eqb, leb}
 use lib.ListN.{length, getD, take, drop, replicate, getD-replicate, List·getD-eq-default, length-replicate, length-take}
 use lib.Seq.{getD-take}
 use borrow.Author.Tests.{eq-eqb, ne-eqb, le-leb, lt-leb, not-true, not-false}
@@ -16,8 +15,8 @@ use Rattle.units.specs.declared.settings.Group.{Group}
 use Rattle.units.specs.Pick.{pick}
 use Rattle.units.specs.Settings.{groupFits}
 use Rattle.fields.specs.declared.text.Scan.{Scan}
-use Rattle.fields.specs.Text.{until, firstField, laterFields, fieldsOf, ends, tabsIn, scanned}
-use Rattle.fields.proofs.Cases.{by-test, by-lt, absurd-by}
+use Rattle.fields.specs.Text.{until, firstField, laterFields, ends, tabsIn, scanned}
+use Rattle.fields.proofs.Cases.{by-lt, absurd-by}
 use Rattle.fields.proofs.Texts.{first-none, first-some, until-take, fields-count}
 use Rattle.fields.proofs.Scans.{scan-within}
 use Rattle.message.specs.declared.value.Message.{Message}
@@ -27,8 +26,8 @@ use Rattle.lines.specs.declared.kind.Found.the-variants.{Known, Unknown}
 use Rattle.lines.specs.declared.read.Line.{Line}
 use Rattle.lines.specs.Table.{kindOf}
 use Rattle.lines.specs.Values.{messageOf}
-use Rattle.lines.specs.Reading.{Got, values, stop, kindIn, lineWith, readValues, readKnown, readText, ended, readLine, refusedLine}
-use Rattle.lines.specs.Walk.{Rest, gotOf, Filled}
+use Rattle.lines.specs.Reading.{values, stop, kindIn, lineWith, readValues, readText, readLine, refusedLine}
+use Rattle.lines.specs.Walk.{Rest, Filled}
 use Rattle.lines.proofs.Making.{message-same}
 
 -- THE FIRST FIELD

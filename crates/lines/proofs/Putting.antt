@@ -1,18 +1,16 @@
 -- What the functions need that put a line into a buffer. Assumes nothing.
 use Prim.Native.Nat.{ℕ, zero, suc, _+_, _*_, _≤_, _<_}
-use mathlib.Core.Path.{_≡_, refl, sym, ap, _∙_}
-use mathlib.Core.List.{List, [], _∷_, _++_, append-assoc, append-nil}
-use mathlib.Core.Bool.{Bool, true, false, not}
+use mathlib.Core.Path.{_≡_, refl, ap, _∙_}
+use mathlib.Core.List.{List, [], _∷_, _++_, append-nil}
 use native.Mathlib.Omega.{arith}
 use native.Mathlib.Numerals.{add-one}
-use lib.Dec.{ltb, leb}
 use lib.ListN.{length, getD, take, drop, set, length-append, length-set}
-use lib.Seq.{sets, sets-eq, length-sets, getD-take, length-take-le}
+use lib.Seq.{sets, sets-eq, getD-take, length-take-le}
 use borrow.Author.Tests.{lt-ltb, le-ltb}
 use Rattle.units.specs.declared.refusal.Refusal.the-variants.{Room}
 use Rattle.units.specs.Pick.{pick}
 use Rattle.fields.specs.declared.spelling.Spelling.{Spelling}
-use Rattle.fields.specs.Field.{limit, spelled}
+use Rattle.fields.specs.Field.{limit}
 use Rattle.fields.specs.Put.{put, putEnd, written}
 use Rattle.fields.specs.Text.{tabbed}
 use Rattle.fields.proofs.Cases.{by-lt}
@@ -21,7 +19,6 @@ use Rattle.fields.proofs.Spellings.{longest-short, spelled-short}
 use Rattle.fields.proofs.Texts.{tabbed-append}
 use Rattle.lines.specs.declared.kind.Kind.{Kind}
 use Rattle.lines.specs.declared.table.Quantity.{Quantity}
-use Rattle.lines.specs.declared.write.Written.{Written}
 use Rattle.lines.specs.declared.write.Written.the-variants.{Done, Refused}
 use Rattle.lines.specs.Lists.{column}
 use Rattle.lines.specs.Table.{letterOf, quantityAt, spellingOf}

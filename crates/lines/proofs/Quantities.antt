@@ -1,9 +1,9 @@
 -- What each quantity's range says of a number, and how a number in range is judged. Assumes nothing.
-use Prim.Native.Nat.{ℕ, _+_, _-_, _≤_, _<_, _^_, min}
-use mathlib.Core.Path.{_≡_, refl, sym, ap, _∙_}
+use Prim.Native.Nat.{ℕ, _-_, _≤_, _<_, min}
+use mathlib.Core.Path.{_≡_}
 use mathlib.Core.Bool.{true, _&&_}
 use native.Mathlib.Omega.{arith}
-use lib.Dec.{leb, ltb, lit≤}
+use lib.Dec.{leb, ltb}
 use lib.Pow.{pow-mono}
 use borrow.Author.Tests.{leb-true, le-leb, ltb-true, lt-ltb}
 use Rattle.units.specs.declared.settings.Group.{Group}
@@ -14,9 +14,8 @@ use Rattle.units.proofs.Every.{and-left, and-right}
 use Rattle.units.proofs.Masks.{some-mask}
 use Rattle.floats.specs.Bits.{xBits, varianceBits, targetBits}
 use Rattle.fields.specs.declared.spelling.Spelling.the-variants.{Decimal, Hex4, Hex16}
-use Rattle.fields.specs.Field.{limit}
 use Rattle.fields.proofs.Spellings.{fits-range, range-fits}
-use Rattle.lines.specs.declared.table.Quantity.the-variants.{Sender, RunNumber, Round, State, Base, Mask, Raw, X, Variance, Target, Number}
+use Rattle.lines.specs.declared.table.Quantity.the-variants.{Sender, RunNumber, Round, State, Base, Mask, Raw, X, Variance, Target}
 use Rattle.lines.specs.Table.{limitFor}
 use Rattle.lines.specs.Values.{word}
 use Rattle.lines.proofs.Arrays.{word-is}

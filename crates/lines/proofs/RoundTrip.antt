@@ -1,10 +1,9 @@
 -- THE ROUND TRIPS OF MESSAGES: what was written is read back, what is accepted is what would be written, in range, and room is known. Assumes nothing.
-use Prim.Native.Nat.{ℕ, _+_, _*_, _≤_}
+use Prim.Native.Nat.{ℕ, _≤_}
 use mathlib.Core.Path.{_≡_, refl, sym, ap, _∙_}
 use mathlib.Core.List.{List, [], _∷_, _++_}
 use mathlib.Core.Bool.{true}
 use native.Mathlib.Omega.{arith}
-use lib.Dec.{ltb}
 use lib.ListN.{length, drop, length-append}
 use borrow.Author.Tests.{le-ltb}
 use Rattle.units.specs.declared.refusal.Refusal.{Refusal}
@@ -24,13 +23,13 @@ use Rattle.lines.specs.declared.write.Written.the-variants.{Done}
 use Rattle.lines.specs.Lists.{joined}
 use Rattle.lines.specs.Reading.{readLine}
 use Rattle.lines.specs.Values.{messageOf, kindIs, headValues, valuesOf, rawOf, floatsOf, targetOf}
-use Rattle.lines.specs.Writing.{lineOf, spellLine, refusalLine, answerOf, bufferOf, writeAnswer, writeBuffer}
+use Rattle.lines.specs.Writing.{lineOf, spellLine, refusalLine, writeAnswer, writeBuffer}
 use Rattle.lines.proofs.Adding.{no-raws, roomy}
 use Rattle.lines.proofs.Arrays.{floats-length, targets-count}
 use Rattle.lines.proofs.Meaning.{Meant, meaning}
 use Rattle.lines.proofs.Saying.{notX, saying, readable}
 use Rattle.lines.proofs.Sending.{message-fits, group-runs}
-use Rattle.lines.proofs.Wire.{Accepted, taken, textOf, line-accepted, line-back, line-ends, line-short}
+use Rattle.lines.proofs.Wire.{taken, textOf, line-accepted, line-back, line-ends, line-short}
 
 -- READING WHAT WAS WRITTEN gives the message back, for every message in range but X, which is only written
 pub read-write : (s : Group) (a : Message) → messageFits s a ≡ true → notX (a .head) ≡ true → readLine s (spellLine s a) ≡ taken a

@@ -1,7 +1,6 @@
 -- The table's definitions at a kind or quantity that is known. Assumes nothing.
-use Prim.Native.Nat.{ℕ, _≤_, _+_, _*_, _%_, _^_, _<_}
-use mathlib.Core.Path.{_≡_, refl, ap, _∙_}
-use native.Mathlib.Omega.{arith}
+use Prim.Native.Nat.{ℕ, _≤_, _%_}
+use mathlib.Core.Path.{_≡_}
 use native.Mathlib.Nat.{mod-lt}
 use lib.Count.{ones, ones-le}
 use lib.Dec.{lit<}

@@ -1,13 +1,13 @@
 -- What the writer of the settings' lines needs. Assumes nothing.
-use Prim.Native.Nat.{ℕ, suc, _+_, _-_, _≤_, _<_}
+use Prim.Native.Nat.{ℕ, _+_, _-_, _≤_, _<_}
 use mathlib.Core.Path.{_≡_, refl, sym, ap, _∙_}
-use mathlib.Core.List.{List, [], _∷_, _++_, append-assoc, append-nil}
+use mathlib.Core.List.{List, [], _∷_, _++_, append-nil}
 use mathlib.Core.Bool.{Bool, true, false, not, _&&_}
 use native.Mathlib.Omega.{arith}
 use native.Mathlib.Numerals.{add-one}
-use lib.Dec.{eqb, leb, ltb}
-use lib.ListN.{length, getD, take, drop, set, length-append, length-set}
-use lib.Seq.{sets, sets-eq, length-take-le}
+use lib.Dec.{eqb, leb}
+use lib.ListN.{length, getD, drop, set, length-append, length-set}
+use lib.Seq.{sets, sets-eq}
 use borrow.Author.Tests.{eq-eqb, ne-eqb, eqb-true, leb-true, lt-ltb, le-ltb, not-true, not-false}
 use Rattle.units.specs.declared.refusal.Refusal.the-variants.{Range, Room}
 use Rattle.units.specs.Every.{every}
@@ -15,15 +15,13 @@ use Rattle.units.specs.Pick.{pick}
 use Rattle.units.specs.Settings.{groupFits, runsFit, numbersFit}
 use Rattle.units.specs.Within.{within}
 use Rattle.units.proofs.Every.{and-left, and-right, every-at}
-use Rattle.message.specs.declared.certificate.Certificate.{Certificate}
 use Rattle.message.specs.declared.settings.Settings.{Settings}
-use Rattle.message.specs.Settings.{byteAt, lenFits, certificateFits, noCertificate, certificateAt, sixteen, settingsFit}
+use Rattle.message.specs.Settings.{byteAt, certificateFits, noCertificate, certificateAt, sixteen, settingsFit}
 use Rattle.fields.specs.declared.spelling.Spelling.the-variants.{Decimal, Factor}
 use Rattle.fields.specs.Put.{put, putEnd, written}
 use Rattle.fields.specs.Text.{tabbed}
 use Rattle.fields.proofs.Puts.{sets-append, put-room, end-room}
 use Rattle.fields.proofs.Texts.{tabbed-append}
-use Rattle.lines.specs.declared.kind.Kind.{Kind}
 use Rattle.lines.specs.declared.kind.Kind.the-variants.{Sizes, Filter}
 use Rattle.lines.specs.declared.write.Written.{Written}
 use Rattle.lines.specs.declared.write.Written.the-variants.{Done, Refused}

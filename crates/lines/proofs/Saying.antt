@@ -1,10 +1,9 @@
 -- FROM A MESSAGE IN RANGE TO ITS LINE'S NUMBERS AND BACK, kind by kind: they are in range, and make the message again. Assumes nothing.
-use Prim.Native.Nat.{ℕ, zero, suc, _+_, _-_, _*_, _/_, _%_, _^_, _≤_, _<_, min}
+use Prim.Native.Nat.{ℕ, zero, suc, _+_, _-_, _*_, _/_, _%_, _≤_, _<_}
 use mathlib.Core.Path.{_≡_, refl, sym, ap, _∙_}
-use mathlib.Core.List.{List, [], _∷_, _++_, append-assoc, append-nil}
+use mathlib.Core.List.{List, [], _∷_, _++_, append-nil}
 use mathlib.Core.Bool.{Bool, true, false, not, _&&_}
 use native.Mathlib.Omega.{arith}
-use native.Mathlib.Nat.{mod-eq-of-lt}
 use lib.Count.{ones}
 use lib.Dec.{eqb, leb, ltb}
 use lib.Ieee.{nan}
@@ -13,12 +12,11 @@ use lib.Seq.{getD-append-add}
 use borrow.Author.Tests.{leb-true, ltb-true}
 use Rattle.units.specs.declared.settings.Group.{Group}
 use Rattle.units.specs.Limits.{labelTop, rawTop, xTop, varianceTop, targetTop}
-use Rattle.units.specs.Mask.{inMask, maskEnd, maskFits}
+use Rattle.units.specs.Mask.{inMask, maskFits}
 use Rattle.units.specs.Pick.{pick}
-use Rattle.units.specs.Settings.{groupFits}
 use Rattle.units.proofs.Every.{and-left, and-right}
 use Rattle.floats.specs.Bits.{bitsOf, xBits, varianceBits, targetBits}
-use Rattle.floats.specs.Ranges.{noEstimate, estimateFits, stateFits, targetsFit, upTo}
+use Rattle.floats.specs.Ranges.{noEstimate, estimateFits, stateFits, targetsFit}
 use Rattle.floats.proofs.Limits.{x-limit, variance-limit, target-limit, range-bits}
 use Rattle.floats.proofs.Places.{estimate-x, estimate-variance, state-run, targets-run}
 use Rattle.units.specs.declared.labels.RoundLabel.{RoundLabel}
@@ -30,16 +28,15 @@ use Rattle.message.specs.declared.head.Head.the-variants.{Reading, Query, Reply
 use Rattle.message.specs.declared.value.Message.{Message}
 use Rattle.message.specs.Head.{carry, carried, headFits}
 use Rattle.message.specs.Readings.{readingsFit}
-use Rattle.fields.proofs.Cases.{by-test, by-lt, absurd-by}
+use Rattle.fields.proofs.Cases.{by-lt, absurd-by}
 use Rattle.lines.specs.declared.kind.Kind.{Kind}
-use Rattle.lines.specs.declared.kind.Kind.the-variants.{Reading as OfReading, Query as OfQuery, Reply as OfReply, Advert as OfAdvert, Update as OfUpdate, Vote as OfVote, Setpoints as OfSetpoints, Due as OfDue, CollectingEnds as OfCollectingEnds, VotingEnds as OfVotingEnds, Floor as OfFloor, Start as OfStart, Refused as OfRefused, Sizes, Filter, Run}
+use Rattle.lines.specs.declared.kind.Kind.the-variants.{Reading as OfReading, Query as OfQuery, Reply as OfReply, Advert as OfAdvert, Update as OfUpdate, Vote as OfVote, Setpoints as OfSetpoints, Due as OfDue, CollectingEnds as OfCollectingEnds, VotingEnds as OfVotingEnds, Floor as OfFloor, Start as OfStart}
 use Rattle.lines.specs.declared.kind.Found.the-variants.{Known}
-use Rattle.lines.specs.declared.table.Quantity.the-variants.{Raw, X, Variance, Target}
 use Rattle.lines.specs.Lists.{joined}
 use Rattle.lines.specs.Table.{letterOf, kindOf, quantityAt, limitOf, countOf, runsOf}
-use Rattle.lines.specs.Values.{word, headOf, messageWith, messageOf, kindIs, headValues, valuesOf, rawOf, floatsOf, targetOf}
+use Rattle.lines.specs.Values.{word, headOf, messageOf, kindIs, headValues, valuesOf, rawOf, floatsOf, targetOf}
 use Rattle.lines.proofs.Adding.{no-raws}
-use Rattle.lines.proofs.Arrays.{word-is, rank, rank-none, rank-suc, rank-mono, reading-range, readings-back, estimates-back, targets-back, raws-length, raws-at, floats-length, floats-at, targets-count, target-at}
+use Rattle.lines.proofs.Arrays.{word-is, rank, reading-range, readings-back, estimates-back, targets-back, raws-length, raws-at, floats-length, floats-at, targets-count, target-at}
 use Rattle.lines.proofs.Columns.{no-run}
 use Rattle.lines.proofs.Making.{message-made}
 use Rattle.lines.proofs.Meaning.{reply-later, update-x, update-variance, setpoints-later}
@@ -58,12 +55,12 @@ below-one : (P : ℕ → Type 0) → P 0 → (i : ℕ) → i < 1 → P i
 below-one P p zero h = p
 below-one P p (suc i) h = absurd (omega arith)
 
-below-two : (P : ℕ → Type 0) → P 0 → P 1 → (i : ℕ) → i < 2 → P i
+pub below-two : (P : ℕ → Type 0) → P 0 → P 1 → (i : ℕ) → i < 2 → P i
 below-two P p q zero h = p
 below-two P p q (suc zero) h = q
 below-two P p q (suc (suc i)) h = absurd (omega arith)
 
-below-three : (P : ℕ → Type 0) → P 0 → P 1 → P 2 → (i : ℕ) → i < 3 → P i
+pub below-three : (P : ℕ → Type 0) → P 0 → P 1 → P 2 → (i : ℕ) → i < 3 → P i
 below-three P p q r zero h = p
 below-three P p q r (suc zero) h = q
 below-three P p q r (suc (suc zero)) h = r

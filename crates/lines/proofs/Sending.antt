@@ -5,7 +5,7 @@ use mathlib.Core.List.{List, [], _∷_, _++_, append-assoc}
 use mathlib.Core.Bool.{Bool, true, false, not, _&&_}
 use native.Mathlib.Omega.{arith}
 use lib.Dec.{leb}
-use lib.ListN.{length, getD, take}
+use lib.ListN.{length, take}
 use borrow.Author.Tests.{leb-true, not-true, not-false}
 use Rattle.units.specs.declared.refusal.Refusal.{Refusal}
 use Rattle.units.specs.declared.refusal.Refusal.the-variants.{Range}
@@ -24,7 +24,7 @@ use Rattle.lines.specs.declared.kind.Kind.{Kind}
 use Rattle.lines.specs.declared.kind.Kind.the-variants.{Refused as OfRefused}
 use Rattle.lines.specs.declared.numbers.Numbers.{Numbers}
 use Rattle.lines.specs.declared.write.Written.{Written}
-use Rattle.lines.specs.declared.write.Written.the-variants.{Done, Refused}
+use Rattle.lines.specs.declared.write.Written.the-variants.{Refused}
 use Rattle.lines.specs.Lists.{joined}
 use Rattle.lines.specs.Values.{kindIs, headValues, rawOf, floatsOf, targetOf, valuesOf}
 use Rattle.lines.specs.Writing.{lineOf, spellLine, refusalLine, answerOf, bufferOf, writeAnswer, writeBuffer}

@@ -1,24 +1,18 @@
 -- THE ROUND TRIPS OF THE SETTINGS LINES, one by one: G, N and K are read back as they were written, and what is accepted is spelled so. Assumes nothing.
-use Prim.Native.Nat.{ℕ, zero, suc, _+_, _-_, _*_, _≤_, _<_}
+use Prim.Native.Nat.{ℕ, _+_, _≤_, _<_}
 use mathlib.Core.Path.{_≡_, refl, sym, ap, _∙_}
 use mathlib.Core.List.{List, [], _∷_, _++_, append-nil}
-use mathlib.Core.Bool.{Bool, true, false, _&&_}
+use mathlib.Core.Bool.{Bool, true, false}
 use native.Mathlib.Omega.{arith}
-use lib.Dec.{eqb, leb, ltb, lit<}
+use lib.Dec.{eqb, leb, lit<}
 use lib.ListN.{length, getD, drop, length-append}
-use borrow.Author.Tests.{eq-eqb, ne-eqb, eqb-true, leb-true, ltb-true, le-leb, lt-ltb}
-use Rattle.units.specs.declared.refusal.Refusal.{Refusal}
-use Rattle.units.specs.declared.settings.Group.{Group}
-use Rattle.units.specs.Limits.{factorLow, factorTop, labelTop}
+use borrow.Author.Tests.{eq-eqb, ne-eqb, eqb-true, leb-true, le-leb, lt-ltb}
 use Rattle.units.specs.Pick.{pick}
-use Rattle.units.proofs.Every.{and-left, and-right}
 use Rattle.message.specs.declared.settings.Settings.{Settings}
 use Rattle.fields.specs.declared.field.Field.{Field}
 use Rattle.fields.specs.declared.field.Field.the-variants.{Value, Form, Range}
-use Rattle.fields.specs.declared.spelling.Spelling.{Spelling}
-use Rattle.fields.specs.declared.spelling.Spelling.the-variants.{Decimal, Factor}
+use Rattle.fields.specs.declared.spelling.Spelling.the-variants.{Decimal}
 use Rattle.fields.specs.Certificate.{isCertificate}
-use Rattle.fields.specs.Field.{fits, spelled, limit, readField}
 use Rattle.fields.specs.Put.{written}
 use Rattle.fields.specs.Text.{until, firstField, laterFields, fieldsOf, tabbed, lacks, allLack}
 use Rattle.fields.proofs.Cases.{by-test, absurd-by}
@@ -30,16 +24,15 @@ use Rattle.lines.specs.declared.kind.Kind.{Kind}
 use Rattle.lines.specs.declared.kind.Kind.the-variants.{Sizes, Filter, Run}
 use Rattle.lines.specs.declared.settle.Answer.{Answer}
 use Rattle.lines.specs.declared.settle.Answer.the-variants.{More, Whole, Refused}
-use Rattle.lines.specs.declared.settle.Settled.{Settled}
 use Rattle.lines.specs.declared.settle.Settling.{Settling}
 use Rattle.lines.specs.declared.table.Limit.{Limit}
 use Rattle.lines.specs.Reading.{Got, values, stop, readBy, readValues, ended}
 use Rattle.lines.specs.Settings.{runNumber, runLine}
-use Rattle.lines.specs.Settling.{kept, stopped, withSizes, withFilter, runWith, certificateOf, turnOf, anyGroup, keptValues, settlePlain, afterField, settleWeight, settleFactor, settleCertificate, settleRun, isKind, expecting, settleText, settleLine}
-use Rattle.lines.specs.Table.{letterOf, quantityAt, spellingOf, limitFor, limitOf, runsOf, countOf}
-use Rattle.lines.specs.Writing.{textsTo, lineOf}
+use Rattle.lines.specs.Settling.{kept, withSizes, withFilter, runWith, certificateOf, turnOf, anyGroup, keptValues, settlePlain, afterField, settleWeight, settleFactor, settleCertificate, settleRun, isKind, expecting, settleText, settleLine}
+use Rattle.lines.specs.Table.{letterOf, quantityAt, spellingOf, limitFor, limitOf, runsOf}
+use Rattle.lines.specs.Writing.{lineOf}
 use Rattle.lines.proofs.Putting.{written-short}
-use Rattle.lines.proofs.Spelled.{Fit, FitsAt, fitsBy, spelling-is, fits-all, fits-each, values-only, values-back, texts-are}
+use Rattle.lines.proofs.Spelled.{Fit, fitsBy, spelling-is, values-only, values-back, texts-are}
 use Rattle.lines.proofs.Wire.{textOf, feed-last, feed-at, ended-line, first-is-letter, later-are-texts, line-short, letter-lacks, written-lacks}
 
 -- whether a line was taken
@@ -186,9 +179,6 @@ fields-lack b run cs factor weight h c =
     rw (written-lacks b (spellingOf (quantityAt Run 0)) run (omega arith), certificate-lacks b cs h c, written-lacks b (spellingOf (quantityAt Run 1)) factor (omega arith), written-lacks b (spellingOf (quantityAt Run 2)) weight (omega arith))
 
 module _ (st : Settling) (n₁ : st .line ≡ 1 → ⊥) (n₂ : st .line ≡ 2 → ⊥) (turn-in : turnOf st < runsOf (st .settings .numbers .group .m)) where
-  turn : ℕ
-  turn = turnOf st
-
   run-text : (text : List ℕ) → settleText st text ≡ expecting st Run text (settleRun st (laterFields text))
   unfolding settleText pick
   run-text text = rw (ne-eqb (st .line) 1 n₁, ne-eqb (st .line) 2 n₂, lt-ltb (turnOf st) (runsOf (st .settings .numbers .group .m)) turn-in)

@@ -4,12 +4,12 @@ use mathlib.Core.Path.{_≡_, refl, sym, ap, _∙_}
 use mathlib.Core.List.{List, [], _∷_}
 use mathlib.Core.Bool.{Bool, true, false, not}
 use native.Mathlib.Omega.{arith}
-use lib.Dec.{eqb, ltb, leb}
-use lib.ListN.{length, getD, take, drop, length-take, length-drop, List·getD-eq-default}
+use lib.Dec.{eqb}
+use lib.ListN.{length, getD, take, drop, length-drop, List·getD-eq-default}
 use lib.Seq.{getD-take, getD-drop, length-take-le}
 use borrow.Author.Tests.{eq-eqb, ne-eqb, le-leb, lt-leb, lt-ltb, le-ltb, not-true, not-false}
 use Rattle.units.specs.declared.refusal.Refusal.{Refusal}
-use Rattle.units.specs.declared.refusal.Refusal.the-variants.{Long, Unended, Kind as NoKind, Fields, Form as NoForm, Range as NoRange}
+use Rattle.units.specs.declared.refusal.Refusal.the-variants.{Long, Unended, Kind as NoKind, Fields, Form as NoForm}
 use Rattle.units.specs.declared.refusal.Verdict.{Verdict}
 use Rattle.units.specs.declared.refusal.Verdict.the-variants.{Taken, Refused}
 use Rattle.units.specs.declared.settings.Group.{Group}
@@ -21,7 +21,7 @@ use Rattle.fields.specs.declared.certificate.Certificate.the-variants.{At, Form
 use Rattle.fields.specs.declared.digit.Digits.{Digits}
 use Rattle.fields.specs.declared.digit.Digits.the-variants.{Said, Wrong}
 use Rattle.fields.specs.declared.field.Field.{Field}
-use Rattle.fields.specs.declared.field.Field.the-variants.{Value, Form, Range}
+use Rattle.fields.specs.declared.field.Field.the-variants.{Value}
 use Rattle.fields.specs.declared.spelling.Spelling.{Spelling}
 use Rattle.fields.specs.declared.text.Scan.{Scan}
 use Rattle.fields.specs.Certificate.{isCertificate, certificateAt}
@@ -32,17 +32,15 @@ use Rattle.fields.proofs.Certificates.{certificate-only, certificate-long}
 use Rattle.fields.proofs.Texts.{cursor-field, cursor-more, first-none, until-take, until-short}
 use Rattle.lines.specs.declared.kind.Kind.{Kind}
 use Rattle.lines.specs.declared.kind.Kind.the-variants.{Sizes, Filter, Run}
-use Rattle.lines.specs.declared.settle.Answer.{Answer}
 use Rattle.lines.specs.declared.settle.Answer.the-variants.{More, Whole}
 use Rattle.lines.specs.declared.settle.Settled.{Settled}
 use Rattle.lines.specs.declared.settle.Settling.{Settling}
 use Rattle.lines.specs.declared.table.Limit.{Limit}
 use Rattle.lines.specs.Lists.{column}
-use Rattle.lines.specs.Reading.{Got, values, stop, readBy, readValues, ended}
-use Rattle.lines.specs.Settling.{answerAt, kept, stopped, withSizes, withFilter, runWith, certificateOf, turnOf, anyGroup, settlePlain, afterField, settleWeight, settleFactor, settleCertificate, settleRun, isKind, expecting, settleText, settleLine}
+use Rattle.lines.specs.Reading.{values, stop, readBy, readValues}
+use Rattle.lines.specs.Settling.{answerAt, kept, stopped, withSizes, withFilter, runWith, certificateOf, turnOf, anyGroup, settlePlain, afterField, settleFactor, settleCertificate, settleRun, isKind, expecting, settleText, settleLine}
 use Rattle.lines.specs.Table.{letterOf, limitOf, runsOf}
 use Rattle.lines.specs.Walk.{Here, Filled}
-use Rattle.lines.proofs.Columns.{Filling, fill-done}
 use Rattle.lines.proofs.Openings.{one-byte, two-bytes, rest-same}
 use Rattle.lines.proofs.Walking.{read-next}
 

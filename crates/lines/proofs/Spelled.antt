@@ -1,23 +1,19 @@
 -- THE LAWS OF A LINE'S NUMBERS, for all kinds at once: what is accepted is spelled in the one way, and what is spelled so is read back. Assumes nothing.
-use Prim.Native.Nat.{ℕ, zero, suc, _+_, _-_, _*_, _≤_, _<_}
+use Prim.Native.Nat.{ℕ, zero, suc, _≤_, _<_}
 use mathlib.Core.Path.{_≡_, refl, sym, ap, _∙_}
 use mathlib.Core.List.{List, [], _∷_, _++_, append-assoc, append-nil}
 use mathlib.Core.Bool.{Bool, true, false, _&&_}
 use native.Mathlib.Omega.{arith}
-use native.Mathlib.Numerals.{add-one}
-use lib.Dec.{eqb, leb}
-use lib.ListN.{length, getD, take, drop, length-append, take-append-drop, List·getD-append}
-use lib.Seq.{take-at, drop-at, length-take-le, getD-take, getD-append-seam, getD-append-add}
+use lib.Dec.{eqb}
+use lib.ListN.{length, getD, take, drop, take-append-drop, List·getD-append}
+use lib.Seq.{take-at, drop-at, length-take-le, getD-take}
 use borrow.Author.Tests.{eq-eqb, eqb-true, le-leb}
-use Rattle.units.specs.declared.refusal.Refusal.{Refusal}
 use Rattle.units.specs.declared.settings.Group.{Group}
 use Rattle.units.specs.Pick.{pick}
 use Rattle.units.proofs.Every.{and-left, and-right}
 use Rattle.fields.specs.declared.field.Field.{Field}
 use Rattle.fields.specs.declared.field.Field.the-variants.{Value, Form, Range}
-use Rattle.fields.specs.declared.spelling.Spelling.{Spelling}
-use Rattle.fields.specs.Field.{fits, spelled, limit}
-use Rattle.fields.specs.Put.{written}
+use Rattle.fields.specs.Field.{fits, spelled}
 use Rattle.fields.proofs.Cases.{by-test, by-lt, absurd-by}
 use Rattle.fields.proofs.Puts.{written-is}
 use Rattle.fields.proofs.Spellings.{field-only, field-read, fits-range}
@@ -26,12 +22,11 @@ use Rattle.lines.specs.declared.kind.Kind.the-variants.{Reading, Query, 
 use Rattle.lines.specs.declared.table.Limit.{Limit}
 use Rattle.lines.specs.declared.table.Quantity.{Quantity}
 use Rattle.lines.specs.declared.table.Quantity.the-variants.{Sender, RunNumber, Round, State, Base, Mask, Raw, X, Variance, Target, Number, Controllers, Runs, Noise, First, Turn, Factor, Weight}
-use Rattle.lines.specs.Lists.{column}
 use Rattle.lines.specs.Reading.{Got, values, stop, limitAfter, readBy, onward, readAll, enough, readRest, readValues}
 use Rattle.lines.specs.Table.{letterOf, quantityAt, spellingOf, limitFor, limitOf, countOf}
 use Rattle.lines.specs.Writing.{spelledAt, textsTo}
 use Rattle.lines.proofs.Columns.{is-column}
-use Rattle.lines.proofs.Stages.{heads-count, count-any, reply-heads, count-head, enough-heads}
+use Rattle.lines.proofs.Stages.{heads-count, count-any, reply-heads, enough-heads}
 
 abbrev pub fitsBy : Limit → ℕ → Bool
 fitsBy l n = fits (l .spelling) (l .low) (l .high) n

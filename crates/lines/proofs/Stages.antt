@@ -1,14 +1,14 @@
 -- The reader's two stages: the head of a line, then what R's mask says that there is. Assumes nothing.
-use Prim.Native.Nat.{ℕ, zero, suc, _+_, _-_, _*_, _%_, _≤_, _<_}
+use Prim.Native.Nat.{ℕ, _+_, _-_, _≤_, _<_}
 use mathlib.Core.Path.{_≡_, refl, sym, ap, _∙_}
-use mathlib.Core.List.{List, [], _∷_, _++_}
+use mathlib.Core.List.{List, []}
 use mathlib.Core.Bool.{Bool, true, false, not}
 use native.Mathlib.Omega.{arith}
 use lib.Count.{ones}
 use lib.Dec.{eqb, leb}
 use lib.ListN.{length, getD, take, drop, length-drop}
 use lib.Seq.{getD-take, take-all}
-use borrow.Author.Tests.{eq-eqb, ne-eqb, eqb-true, leb-true, le-leb, not-true, not-false}
+use borrow.Author.Tests.{eq-eqb, ne-eqb, eqb-true, leb-true, not-true, not-false}
 use Rattle.units.specs.declared.refusal.Refusal.{Refusal}
 use Rattle.units.specs.declared.refusal.Refusal.the-variants.{Fields}
 use Rattle.units.specs.declared.refusal.Verdict.{Verdict}
@@ -22,8 +22,8 @@ use Rattle.lines.specs.declared.kind.Kind.{Kind}
 use Rattle.lines.specs.declared.kind.Kind.the-variants.{Reading, Query, Reply, Advert, Update, Vote, Setpoints, Due, CollectingEnds, VotingEnds, Floor, Start, Refused as OfRefused, Sizes, Filter, Run}
 use Rattle.lines.specs.declared.values.Walk.{Walk}
 use Rattle.lines.specs.Table.{letterOf, countOf}
-use Rattle.lines.specs.Reading.{Got, values, stop, limitAfter, readAll, enough, readRest, readValues}
-use Rattle.lines.specs.Walk.{Here, Rest, gotOf, Walked, Filled}
+use Rattle.lines.specs.Reading.{values, stop, limitAfter, readAll, enough, readRest, readValues}
+use Rattle.lines.specs.Walk.{Here, gotOf, Walked, Filled}
 
 -- THE COUNTS
 pub heads-count : (k : Kind) (s : Group) (mask : ℕ) → countOf k s 0 ≤ countOf k s mask

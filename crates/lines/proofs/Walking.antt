@@ -2,7 +2,6 @@
 use Prim.Native.Nat.{ℕ, zero, suc, _+_, _-_, _≤_, _<_}
 use mathlib.Core.Path.{_≡_, refl, sym, ap, _∙_}
 use mathlib.Core.List.{List, [], _∷_, _++_}
-use mathlib.Core.Bool.{true, false}
 use native.Mathlib.Omega.{arith}
 use native.Mathlib.Numerals.{add-one}
 use lib.ListN.{length, getD, take, drop, set, length-set}
@@ -23,8 +22,8 @@ use Rattle.lines.specs.declared.kind.Kind.{Kind}
 use Rattle.lines.specs.declared.table.Limit.{Limit}
 use Rattle.lines.specs.declared.values.Walk.{Walk}
 use Rattle.lines.specs.Table.{limitOf}
-use Rattle.lines.specs.Reading.{Got, values, stop, limitAfter, readBy, onward, readAll}
-use Rattle.lines.specs.Walk.{Here, Rest, gotOf, Walked}
+use Rattle.lines.specs.Reading.{Got, limitAfter, onward, readAll}
+use Rattle.lines.specs.Walk.{Here, Rest, Walked}
 
 -- WHAT A FIELD SAYS does not depend on where the next one starts
 judge-any : (sp : Spelling) (low high a b : ℕ) (d : Digits) (go : ℕ → Got) → onward (judge sp low high a d) go ≡ onward (judge sp low high b d) go

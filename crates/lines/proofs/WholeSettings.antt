@@ -1,47 +1,46 @@
 -- THE ROUND TRIP OF THE SETTINGS AS A WHOLE: settings in range, written and read again, are the same; what is accepted is in range and spelled as the writer spells it. Assumes nothing.
-use Prim.Native.Nat.{ℕ, zero, suc, _+_, _-_, _*_, _≤_, _<_}
+use Prim.Native.Nat.{ℕ, zero, suc, _+_, _-_, _≤_, _<_}
 use mathlib.Core.Path.{_≡_, refl, sym, ap, _∙_}
 use mathlib.Core.List.{List, [], _∷_, _++_, append-assoc}
 use mathlib.Core.Bool.{Bool, true, false, _&&_}
 use native.Mathlib.Omega.{arith}
-use native.Mathlib.Numerals.{add-one}
 use lib.Dec.{eqb, leb, ltb}
 use lib.ListN.{length, getD, take, set, replicate, length-append, length-set, length-take, length-replicate, getD-replicate, List·getD-append, List·getD-eq-default}
 use lib.Seq.{getD-set-same, getD-set-other, getD-append-seam, getD-take, length-take-le, ext-getD, take-at}
-use borrow.Author.Tests.{eq-eqb, ne-eqb, eqb-true, eqb-false, leb-true, ltb-true, ltb-false, le-leb, lt-ltb, le-ltb}
+use borrow.Author.Tests.{eq-eqb, ne-eqb, eqb-true, eqb-false, leb-true, le-leb, lt-ltb, le-ltb}
 use Rattle.units.specs.declared.refusal.Refusal.{Refusal}
-use Rattle.units.specs.declared.settings.Group.{Group}
-use Rattle.units.specs.declared.settings.Numbers.{Numbers}
 use Rattle.units.specs.Every.{every}
-use Rattle.units.specs.Limits.{factorLow, factorTop, weightTop, noiseTop, firstTop, controllersTop, runsTop, labelTop}
+use Rattle.units.specs.Limits.{factorLow, factorTop, weightTop, noiseTop, firstTop, controllersTop, runsTop}
 use Rattle.units.specs.Pick.{pick}
 use Rattle.units.specs.Settings.{groupFits, placeFits, placeAt, runsFit, numbersFit}
 use Rattle.units.specs.Within.{within}
 use Rattle.units.proofs.Every.{and-left, and-right, every-at, every-all}
 use Rattle.message.specs.declared.certificate.Certificate.{Certificate}
 use Rattle.message.specs.declared.settings.Settings.{Settings}
-use Rattle.message.specs.Settings.{bytePlace, byteAt, lenFits, certificateFits, noCertificate, certificateAt, sixteen, settingsFit}
+use Rattle.message.specs.Settings.{bytePlace, byteAt, certificateFits, noCertificate, certificateAt, settingsFit}
 use Rattle.fields.specs.declared.spelling.Spelling.the-variants.{Decimal, Factor}
 use Rattle.fields.specs.Certificate.{visible, allVisible, isCertificate}
 use Rattle.fields.proofs.Cases.{by-test, by-lt, absurd-by}
 use Rattle.fields.proofs.Spellings.{fits-range, range-fits}
-use Rattle.lines.specs.declared.kind.Kind.the-variants.{Sizes, Filter, Run}
+use Rattle.lines.specs.declared.kind.Kind.the-variants.{Sizes, Filter}
 use Rattle.lines.specs.declared.settle.Answer.{Answer}
 use Rattle.lines.specs.declared.settle.Answer.the-variants.{More, Whole, Refused}
 use Rattle.lines.specs.declared.settle.Settled.{Settled}
 use Rattle.lines.specs.declared.settle.Settling.{Settling}
 use Rattle.lines.specs.Lists.{column}
 use Rattle.lines.specs.Settings.{bytesOf, runLine, settingLine, settingLines}
-use Rattle.lines.specs.Settling.{noOne, started, answerAt, kept, withSizes, withFilter, runWith, certificateOf, turnOf, anyGroup, settleLine, settleOn, settleAll}
+use Rattle.lines.specs.Settling.{noOne, started, answerAt, withSizes, withFilter, runWith, certificateOf, turnOf, anyGroup, settleLine, settleOn, settleAll}
 use Rattle.lines.specs.Table.{quantityAt, limitFor, limitOf, runsOf, countOf}
 use Rattle.lines.specs.Values.{word}
 use Rattle.lines.specs.Writing.{lineOf}
 use Rattle.lines.proofs.Arrays.{word-is}
 use Rattle.lines.proofs.Columns.{length-column, getD-column, is-column}
+use Rattle.lines.proofs.Meaning.{of-two, of-three}
 use Rattle.lines.proofs.Runs.{settings-fit, settings-group}
+use Rattle.lines.proofs.Saying.{below-two, below-three}
 use Rattle.lines.proofs.Sending.{group-runs, group-senders}
-use Rattle.lines.proofs.SettingTrip.{takes, Fitting, sizes-back, filter-back, run-back, Kept, sizes-only, filter-only, Given, run-only}
-use Rattle.lines.proofs.Spelled.{Fit, FitsAt, fitsBy, fits-all, fits-each}
+use Rattle.lines.proofs.SettingTrip.{takes, Fitting, sizes-back, filter-back, run-back, sizes-only, filter-only, Given, run-only}
+use Rattle.lines.proofs.Spelled.{Fit, fitsBy, fits-all, fits-each}
 
 -- CERTIFICATES
 visible-all : (cs : List ℕ) → ((i : ℕ) → i < length cs → visible (getD cs i 0) ≡ true) → allVisible cs ≡ true
@@ -316,16 +315,6 @@ runs-only (l ∷ ls) us i st end r b e =
     (λ t. refused-end (settleAll ls) (settleLine st l .next) end (settleLine st l .answer) t e)
 
 -- THE FIRST TWO LINES
-of-two : (vs : List ℕ) → length vs ≡ 2 → getD vs 0 0 ∷ getD vs 1 0 ∷ [] ≡ vs
-of-two [] e = absurd (omega arith)
-of-two (a ∷ []) e = absurd (omega arith)
-of-two (a ∷ b ∷ []) e = refl
-of-two (a ∷ b ∷ c ∷ vs) e = absurd (omega arith)
-
-of-three : (vs : List ℕ) → length vs ≡ 3 → getD vs 0 0 ∷ getD vs 1 0 ∷ getD vs 2 0 ∷ [] ≡ vs
-of-three [] e = absurd (omega arith)
-of-three (a ∷ vs) e = ap (λ (l : List ℕ). a ∷ l) (of-two vs (omega arith))
-
 sizes-fit : (vs : List ℕ) → Fit Sizes anyGroup vs → (length vs ≡ 2) × (groupFits (record { g = getD vs 0 0; m = getD vs 1 0 }) ≡ true)
 unfolding countOf quantityAt limitFor groupFits
 sizes-fit vs f =
@@ -452,25 +441,11 @@ same-settings : (a b : Settings) → a .numbers .group ≡ b .numbers .group →
     → a .numbers .factors ≡ b .numbers .factors → a .numbers .weights ≡ b .numbers .weights → a .certificates ≡ b .certificates → a ≡ b
 same-settings a b g q r p f w c = rw (← g, ← q, ← r, ← p, ← f, ← w, ← c)
 
-two : (P : ℕ → Type 0) → P 0 → P 1 → (i : ℕ) → i < 2 → P i
-two P p q zero h = p
-two P p q (suc zero) h = q
-two P p q (suc (suc i)) h = absurd (omega arith)
-
-three : (P : ℕ → Type 0) → P 0 → P 1 → P 2 → (i : ℕ) → i < 3 → P i
-three P p q r zero h = p
-three P p q r (suc zero) h = q
-three P p q r (suc (suc zero)) h = r
-three P p q r (suc (suc (suc i))) h = absurd (omega arith)
-
 same-settling : (st : Settling) (n : ℕ) (s : Settings) → st .line ≡ n → st .settings ≡ s → st ≡ record { line = n; settings = s }
 same-settling st n s p q = rw (← p, ← q)
 
 -- settings in range, as they are read run by run
 module _ (s : Settings) (fits : settingsFit s ≡ true) where
-  m : ℕ
-  m = s .numbers .group .m
-
   group-in : groupFits (s .numbers .group) ≡ true
   group-in = settings-group s fits
 
@@ -564,9 +539,6 @@ module _ (s : Settings) (fits : settingsFit s ≡ true) where
 
   -- a run more
   module _ (i : ℕ) (st : Settling) (x : Part i st) (below : i < s .numbers .group .m) where
-    c : Certificate
-    c = getD (s .certificates) i noCertificate
-
     turn-at : turnOf st ≡ i
     turn-at = let l = x .line in omega arith
 
@@ -667,7 +639,7 @@ module _ (s : Settings) (fits : settingsFit s ≡ true) where
       record {
         counted = refl;
         inside = fits-all Sizes anyGroup (g ∷ s .numbers .group .m ∷ []) refl
-            (two (λ i. fitsBy (limitOf Sizes i anyGroup (s .numbers .group .m)) (getD (g ∷ s .numbers .group .m ∷ []) i 0) ≡ true)
+            (below-two (λ i. fitsBy (limitOf Sizes i anyGroup (s .numbers .group .m)) (getD (g ∷ s .numbers .group .m ∷ []) i 0) ≡ true)
             (range-fits Decimal 1 controllersTop g (record { least = a .0; most = a .1; can = omega arith }))
             (range-fits Decimal 1 runsTop (s .numbers .group .m) (record { least = b .0; most = b .1; can = omega arith })));
       }
@@ -692,7 +664,7 @@ module _ (s : Settings) (fits : settingsFit s ≡ true) where
       record {
         counted = refl;
         inside = fits-all Filter anyGroup vs refl
-            (three (λ i. fitsBy (limitOf Filter i anyGroup (n .r)) (getD vs i 0) ≡ true)
+            (below-three (λ i. fitsBy (limitOf Filter i anyGroup (n .r)) (getD vs i 0) ≡ true)
             (range-fits Decimal 1 noiseTop (n .q) (record { least = a .0 .0; most = a .0 .1; can = let z = a .0 .1 in omega arith }))
             (range-fits Decimal 1 noiseTop (n .r) (record { least = a .1 .0; most = a .1 .1; can = let z = a .1 .1 in omega arith }))
             (range-fits Decimal 1 firstTop (n .p) (record { least = a .2 .0; most = a .2 .1; can = let z = a .2 .1 in omega arith })));

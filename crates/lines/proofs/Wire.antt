@@ -1,12 +1,11 @@
 -- THE LAWS OF A LINE: what is accepted is the one spelling of its numbers, and that spelling is read back. Assumes nothing.
-use Prim.Native.Nat.{ℕ, zero, suc, _+_, _*_, _≤_, _<_}
+use Prim.Native.Nat.{ℕ, zero, suc, _+_, _≤_, _<_}
 use mathlib.Core.Path.{_≡_, refl, sym, ap, _∙_}
-use mathlib.Core.List.{List, [], _∷_, _++_, append-assoc, append-nil}
-use mathlib.Core.Bool.{Bool, true, false, _&&_}
+use mathlib.Core.List.{List, [], _∷_, _++_, append-nil}
+use mathlib.Core.Bool.{true}
 use native.Mathlib.Omega.{arith}
-use lib.Count.{ones}
 use lib.Dec.{eqb, leb, lit<}
-use lib.ListN.{length, getD, take, drop, length-append}
+use lib.ListN.{length, getD, drop, length-append}
 use borrow.Author.Tests.{eq-eqb, ne-eqb, eqb-true, le-leb}
 use Rattle.units.specs.declared.refusal.Refusal.{Refusal}
 use Rattle.units.specs.declared.refusal.Verdict.the-variants.{Taken, Refused}
@@ -16,12 +15,12 @@ use Rattle.units.specs.Settings.{groupFits}
 use Rattle.units.proofs.Every.{and-left, and-right}
 use Rattle.message.specs.declared.value.Message.{Message}
 use Rattle.fields.specs.declared.spelling.Spelling.{Spelling}
-use Rattle.fields.specs.Field.{limit, spelled}
+use Rattle.fields.specs.Field.{limit}
 use Rattle.fields.specs.Put.{written}
 use Rattle.fields.specs.Text.{until, firstField, laterFields, fieldsOf, tabbed, lacks, allLack, scanned}
 use Rattle.fields.proofs.Cases.{by-test, by-lt, absurd-by}
 use Rattle.fields.proofs.Puts.{written-is, written-none}
-use Rattle.fields.proofs.Scans.{scan-ended, scan-last}
+use Rattle.fields.proofs.Scans.{scan-ended}
 use Rattle.fields.proofs.Spellings.{spelled-lacks}
 use Rattle.fields.proofs.Texts.{text-only, fields-back, tabbed-lacks, lacks-append, until-append, until-take}
 use Rattle.lines.specs.declared.kind.Kind.{Kind}
@@ -30,13 +29,13 @@ use Rattle.lines.specs.declared.kind.Found.{Found}
 use Rattle.lines.specs.declared.kind.Found.the-variants.{Known, Unknown}
 use Rattle.lines.specs.declared.read.Line.{Line}
 use Rattle.lines.specs.Lists.{column}
-use Rattle.lines.specs.Reading.{Got, values, stop, limitAfter, kindIn, lineWith, readValues, readKnown, readText, ended, readLine}
+use Rattle.lines.specs.Reading.{Got, values, stop, kindIn, lineWith, readValues, readKnown, readText, ended, readLine}
 use Rattle.lines.specs.Table.{letterOf, kindOf, quantityAt, spellingOf, countOf}
 use Rattle.lines.specs.Values.{messageOf}
 use Rattle.lines.specs.Writing.{spelledAt, textsTo, lineOf}
 use Rattle.lines.proofs.Putting.{texts-short}
 use Rattle.lines.proofs.Rows.{few-bits}
-use Rattle.lines.proofs.Spelled.{Fit, spelledAll, values-only, values-back, texts-are}
+use Rattle.lines.proofs.Spelled.{Fit, values-only, values-back, texts-are}
 
 abbrev pub taken : Message → Line
 taken a = record { verdict = Taken; message = a }

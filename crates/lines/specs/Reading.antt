@@ -6,7 +6,6 @@ use lib.Dec.{eqb, leb}
 use lib.ListN.{length, getD, take, drop}
 use Rattle.units.specs.declared.refusal.Refusal.{Refusal}
 use Rattle.units.specs.declared.refusal.Refusal.the-variants.{Long, Unended, Kind as NoKind, Fields, Form as NoForm, Range as NoRange}
-use Rattle.units.specs.declared.refusal.Verdict.{Verdict}
 use Rattle.units.specs.declared.refusal.Verdict.the-variants.{Taken, Refused}
 use Rattle.units.specs.declared.settings.Group.{Group}
 use Rattle.units.specs.Limits.{lineTop}
@@ -14,7 +13,6 @@ use Rattle.units.specs.Pick.{pick}
 use Rattle.units.specs.Refusal.{numberOf}
 use Rattle.units.specs.Settings.{groupFits}
 use Rattle.message.specs.declared.head.Head.the-variants.{Refused as HeadRefused}
-use Rattle.message.specs.declared.value.Message.{Message}
 use Rattle.message.specs.Message.{plain}
 use Rattle.fields.specs.declared.field.Field.{Field}
 use Rattle.fields.specs.declared.field.Field.the-variants.{Value, Form, Range}

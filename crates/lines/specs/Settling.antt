@@ -10,7 +10,7 @@ use Rattle.units.specs.declared.settings.Group.{Group}
 use Rattle.units.specs.declared.settings.Numbers.{Numbers}
 use Rattle.units.specs.Limits.{lineTop, runsTop}
 use Rattle.units.specs.Pick.{pick}
-use Rattle.units.specs.Refusal.{numberOf}
+use Rattle.units.specs.Refusal.{numberOf, valuesOf}
 use Rattle.message.specs.declared.certificate.Certificate.{Certificate}
 use Rattle.message.specs.declared.settings.Settings.{Settings}
 use Rattle.fields.specs.declared.field.Field.{Field}
@@ -147,3 +147,14 @@ settleOn go st (Refused why) = record { next = st; answer = Refused why }
 unfoldable pub settleAll : List (List ℕ) → Settling → Settled
 settleAll [] st = stopped st Unended
 settleAll (l ∷ ls) st = settleOn (settleAll ls) (settleLine st l .next) (settleLine st l .answer)
+
+-- the number of what a line of the settings led to, 0 where it was taken, and the values that go with it
+abbrev pub answerNumber : Answer → ℕ
+answerNumber More = 0
+answerNumber Whole = 0
+answerNumber (Refused why) = numberOf why
+
+abbrev pub answerValues : Answer → List ℕ
+answerValues More = 0 ∷ []
+answerValues Whole = 1 ∷ []
+answerValues (Refused why) = valuesOf why

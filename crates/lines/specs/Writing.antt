@@ -8,9 +8,8 @@ use Rattle.units.specs.declared.refusal.Refusal.{Refusal}
 use Rattle.units.specs.declared.refusal.Refusal.the-variants.{Range, Room}
 use Rattle.units.specs.declared.settings.Group.{Group}
 use Rattle.units.specs.Pick.{pick}
-use Rattle.units.specs.Refusal.{numberOf}
+use Rattle.units.specs.Refusal.{numberOf, valuesOf}
 use Rattle.message.specs.declared.value.Message.{Message}
-use Rattle.message.specs.Message.{messageFits}
 use Rattle.fields.specs.Put.{written}
 use Rattle.fields.specs.Text.{lineFeed, tabbed}
 use Rattle.lines.specs.declared.kind.Kind.{Kind}
@@ -19,7 +18,7 @@ use Rattle.lines.specs.declared.write.Written.{Written}
 use Rattle.lines.specs.declared.write.Written.the-variants.{Done, Refused}
 use Rattle.lines.specs.Lists.{column}
 use Rattle.lines.specs.Table.{letterOf, quantityAt, spellingOf}
-use Rattle.lines.specs.Values.{kindIs, valuesOf}
+use Rattle.lines.specs.Values.{kindIs, valuesOf as numbersOf}
 
 -- the number at a place, in its one spelling
 abbrev pub spelledAt : Kind → List ℕ → ℕ → List ℕ
@@ -33,7 +32,7 @@ unfoldable pub lineOf : Kind → List ℕ → List ℕ
 lineOf kind vs = letterOf kind ∷ tabbed (textsTo kind vs (length vs)) ++ (lineFeed ∷ [])
 
 unfoldable pub spellLine : Group → Message → List ℕ
-spellLine s a = lineOf (kindIs (a .head)) (valuesOf s a)
+spellLine s a = lineOf (kindIs (a .head)) (numbersOf s a)
 
 -- the line of a refusal
 unfoldable pub refusalLine : Refusal → List ℕ
@@ -53,3 +52,12 @@ writeAnswer fit bytes buf = pick fit (answerOf bytes buf) (Refused Range)
 
 unfoldable pub writeBuffer : Bool → List ℕ → List ℕ → List ℕ
 writeBuffer fit bytes buf = pick fit (bufferOf bytes buf) buf
+
+-- the number of what the writer answers, 0 where it is done, and the values that go with it
+abbrev pub writtenNumber : Written → ℕ
+writtenNumber (Done len) = 0
+writtenNumber (Refused why) = numberOf why
+
+abbrev pub writtenValues : Written → List ℕ
+writtenValues (Done len) = len ∷ []
+writtenValues (Refused why) = valuesOf why

@@ -1,6 +1,6 @@
 // THE READER: what a line says, or why it is refused.
 ghost use mathlib.Core.Path.{_≡_};
-ghost use Prim.Native.Nat.{_+_, _≤_};
+ghost use Prim.Native.Nat.{_+_};
 ghost use lib.ListN.{length};
 ghost use Rattle.fields.specs.Text.{firstField, laterFields, tabsIn};
 ghost use Rattle.lines.specs.Reading.{kindIn, lineWith, readLine, readText, readValues, refusedLine};

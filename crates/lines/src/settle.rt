@@ -1,10 +1,10 @@
 // The settings, read line by line.
 ghost use mathlib.Core.Path.{_≡_};
-ghost use mathlib.Core.List.{List, [], _∷_};
+ghost use mathlib.Core.List.{[], _∷_};
 ghost use Prim.Native.Nat.{_+_, _-_, _≤_, _<_};
 ghost use lib.ListN.{drop, getD, length, take};
 ghost use Rattle.fields.specs.Text.{firstField, laterFields, tabsIn};
-ghost use Rattle.lines.specs.Settling.{anyGroup, answerAt, certificateOf, expecting, isKind, missing, settleCertificate, settleFactor, settleLine, settlePlain, settleRun, settleText, settleWeight, started, stopped, withFilter, runWith, turnOf, withSizes, kept};
+ghost use Rattle.lines.specs.Settling.{answerNumber, anyGroup, answerAt, certificateOf, expecting, isKind, missing, settleCertificate, settleFactor, settleLine, settlePlain, settleRun, settleText, settleWeight, started, stopped, withFilter, runWith, turnOf, withSizes, kept};
 ghost use Rattle.lines.specs.declared.kind.Kind.{Kind};
 ghost use Rattle.lines.specs.Walk.{Here};
 use crate::kind::Kind;
@@ -24,7 +24,6 @@ use units::Numbers;
 use units::Refusal;
 use units::Verdict;
 use units::limits::LINE;
-use units::limits::RUNS;
 
 // What is read so far, and the number of the next line, from 1.
 pub struct Settling {
@@ -36,6 +35,18 @@ pub enum Answer {
     More,
     Whole,
     Refused(Refusal),
+}
+
+impl Answer {
+    pub fn number(self) -> u32
+        ensures { λ r. ⌜ r ≡ answerNumber self ⌝ }
+    {
+        match self {
+            Answer::More => 0,
+            Answer::Whole => 0,
+            Answer::Refused(why) => why.number(),
+        }
+    }
 }
 
 // What a line led to: what is read now, and whether more lines are wanted.

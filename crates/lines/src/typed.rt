@@ -3,7 +3,7 @@ ghost use mathlib.Core.Path.{_≡_};
 ghost use Prim.Native.Nat.{_≤_};
 ghost use Rattle.floats.specs.Bits.{floatOf};
 ghost use Rattle.lines.specs.Lists.{column};
-ghost use Rattle.lines.specs.Values.{estimateIn, headOf, messageOf, messageWith, pickWord, readingIn, targetIn, tally, word};
+ghost use Rattle.lines.specs.Values.{estimateIn, headOf, messageOf, pickWord, readingIn, targetIn, tally, word};
 use crate::kind::Kind;
 use crate::table::runs_of;
 use floats::bits::float_of;

@@ -1,14 +1,11 @@
 // THE WRITER: a message's line straight into a lent buffer.
 ghost use mathlib.Core.Path.{_≡_};
-ghost use mathlib.Core.List.{List, [], _∷_, _++_};
 ghost use Prim.Native.Nat.{_+_, _*_, _≤_};
 ghost use lib.ListN.{length, take};
 ghost use lib.Seq.{sets};
-ghost use Rattle.fields.specs.Put.{written};
 ghost use Rattle.fields.specs.Text.{tabbed};
-ghost use Rattle.fields.specs.declared.spelling.Spelling.{Spelling};
 ghost use Rattle.message.specs.Message.{messageFits};
-ghost use Rattle.lines.specs.Writing.{answerOf, bufferOf, lineOf, refusalLine, spellLine, textsTo, writeAnswer, writeBuffer};
+ghost use Rattle.lines.specs.Writing.{answerOf, bufferOf, lineOf, refusalLine, spellLine, textsTo, writeAnswer, writeBuffer, writtenNumber};
 use crate::kind::Kind;
 use crate::numbers::kind_is;
 use crate::numbers::numbers_of;
@@ -24,6 +21,17 @@ use units::Refusal;
 pub enum Written {
     Done { len: usize },
     Refused(Refusal),
+}
+
+impl Written {
+    pub fn number(self) -> u32
+        ensures { λ r. ⌜ r ≡ writtenNumber self ⌝ }
+    {
+        match self {
+            Written::Done { len: _ } => 0,
+            Written::Refused(why) => why.number(),
+        }
+    }
 }
 
 // The bytes of the first n numbers, each with its tab.

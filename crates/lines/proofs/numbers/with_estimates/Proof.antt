@@ -3,11 +3,7 @@ use Prim.Native.Nat.{_+_, _*_, _-_, _≤_}
 use mathlib.Core.Path.{_≡_, refl, sym}
 use native.Mathlib.Omega.{arith}
 use borrow.Author.Needs.{needs}
-use Prim.Native.Nat.{ℕ}
-use mathlib.Core.Path.{ap}
-use mathlib.Core.List.{[], _∷_}
-use lib.ListN.{take, getD}
-use Rattle.lines.specs.Lists.{joined}
+use lib.ListN.{take}
 use Rattle.lines.specs.Values.{floatsOf}
 use Rattle.lines.proofs.Adding.{Adding, add-start, add-pair}
 use native.Mathlib.Omega.{arith}

@@ -1,17 +1,13 @@
 -- `with_readings` meets its contract. Assumes nothing.
 use Rattle.lines.proofs.Adding.{readings-here, readings-not, readings-none, readings-all}
-use Prim.Native.Nat.{_+_, _*_, _-_, _≤_}
-use mathlib.Core.Path.{_≡_, refl, sym}
+use Prim.Native.Nat.{_+_, _-_, _≤_}
+use mathlib.Core.Path.{refl}
 use native.Mathlib.Omega.{arith}
 use borrow.Author.Needs.{needs}
-use Prim.Native.Nat.{ℕ}
-use mathlib.Core.Path.{ap}
-use mathlib.Core.List.{[], _∷_}
-use lib.ListN.{take, getD}
-use Rattle.lines.specs.Lists.{joined}
+use lib.ListN.{take}
 use mathlib.Core.Logic.{⊎-elim}
 use Rattle.lines.specs.Values.{rawOf}
-use Rattle.lines.proofs.Adding.{Adding, add-start, add-none, add-value, add-count, raw-here, raw-none, no-raws}
+use Rattle.lines.proofs.Adding.{Adding, add-start}
 use native.Mathlib.Omega.{arith}
 use Rattle.lines.proofs.numbers.with_readings.Statement.{statement}
 use Rattle.lines.proofs.numbers.with_readings.Tie as tie

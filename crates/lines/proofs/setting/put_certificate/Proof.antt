@@ -1,6 +1,6 @@
 -- `put_certificate` meets its contract. Assumes nothing.
 use native.Mathlib.Omega.{arith}
-use mathlib.Core.Path.{refl, sym, _∙_}
+use mathlib.Core.Path.{sym, _∙_}
 use lib.ListN.{length-set}
 use Prim.Native.Nat.{_+_, _≤_}
 use lib.ListN.{length}

@@ -1,5 +1,5 @@
 -- `put_field` meets its contract. Assumes nothing.
-use mathlib.Core.Path.{refl, sym, _∙_}
+use mathlib.Core.Path.{_∙_}
 use lib.ListN.{length-set}
 use Rattle.lines.proofs.Runs.{tab-put}
 use borrow.Author.Needs.{needs}

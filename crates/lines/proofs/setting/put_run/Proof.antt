@@ -1,6 +1,6 @@
 -- `put_run` meets its contract. Assumes nothing.
 use native.Mathlib.Omega.{arith}
-use mathlib.Core.Path.{_≡_, refl, sym, _∙_}
+use mathlib.Core.Path.{_≡_, refl, _∙_}
 use lib.ListN.{length-set}
 use lib.ListN.{length}
 use lib.Seq.{length-take-le}

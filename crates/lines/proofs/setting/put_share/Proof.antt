@@ -1,5 +1,4 @@
 -- `put_share` meets its contract. Assumes nothing.
-use mathlib.Core.Path.{refl, sym, _∙_}
 use Rattle.lines.proofs.Runs.{tabs-put, share-is}
 use Rattle.fields.specs.Put.{written}
 use Rattle.fields.specs.declared.spelling.Spelling.the-variants.{Decimal, Factor}

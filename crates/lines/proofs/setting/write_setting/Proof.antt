@@ -1,5 +1,4 @@
 -- `write_setting` meets its contract. Assumes nothing.
-use native.Mathlib.Omega.{arith}
 use mathlib.Core.Path.{sym, _∙_}
 use borrow.Author.Tests.{not-false}
 use Rattle.lines.proofs.Runs.{setting-range, setting-put}

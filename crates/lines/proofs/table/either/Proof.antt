@@ -1,6 +1,4 @@
 -- `either` meets its contract. Assumes nothing.
-use Rattle.units.proofs.Picked.{along}
-use Rattle.lines.specs.Table.{alternate}
 use Rattle.lines.proofs.table.either.Statement.{statement}
 use Rattle.lines.proofs.table.either.Tie as tie
 

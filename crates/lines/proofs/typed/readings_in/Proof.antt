@@ -5,7 +5,6 @@ use native.Mathlib.Omega.{arith}
 use borrow.Author.Needs.{needs}
 use Rattle.lines.proofs.Columns.{Filling, fill-start, fill-more, fill-done}
 use lib.Count.{ones}
-use lib.Dec.{lit≤}
 use Rattle.lines.specs.Values.{readingIn}
 use Rattle.lines.proofs.Making.{no-readings, at-start, at-few, raw-made, at-more}
 use native.Mathlib.Omega.{arith}

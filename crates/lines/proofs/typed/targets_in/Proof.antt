@@ -1,6 +1,6 @@
 -- `targets_in` meets its contract. Assumes nothing.
-use Prim.Native.Nat.{_+_, _-_, _%_, _^_, _≤_}
-use mathlib.Core.Path.{_≡_, refl}
+use Prim.Native.Nat.{_-_, _≤_}
+use mathlib.Core.Path.{_≡_}
 use native.Mathlib.Omega.{arith}
 use borrow.Author.Needs.{needs}
 use Rattle.lines.proofs.Columns.{Filling, fill-start, fill-more, fill-done}

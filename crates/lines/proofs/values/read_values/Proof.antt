@@ -1,6 +1,5 @@
 -- `read_values` meets its contract. Assumes nothing.
 use Rattle.lines.proofs.Stages.{values-few, heads-there, values-rest, values-stop}
-use mathlib.Core.Path.{refl}
 use native.Mathlib.Omega.{arith}
 use borrow.Author.Needs.{needs}
 use Rattle.lines.proofs.values.read_values.Statement.{statement}

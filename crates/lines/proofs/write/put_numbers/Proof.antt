@@ -1,12 +1,11 @@
 -- `put_numbers` meets its contract. Assumes nothing.
-use Prim.Native.Nat.{_+_, _*_, _-_, _≤_}
-use mathlib.Core.Path.{_≡_, refl, sym, _∙_}
+use Prim.Native.Nat.{_+_, _-_, _≤_}
+use mathlib.Core.Path.{_≡_, refl, _∙_}
 use native.Mathlib.Omega.{arith}
 use borrow.Author.Needs.{needs}
 use lib.ListN.{length, length-set}
 use lib.Seq.{sets}
 use Rattle.fields.specs.Text.{tabbed}
-use Rattle.fields.proofs.Puts.{put-long}
 use Rattle.lines.specs.Lists.{column}
 use Rattle.lines.specs.Writing.{textsTo}
 use Rattle.lines.proofs.Putting.{tab-room, end-more, put-more}

@@ -1,6 +1,5 @@
 -- `Settling::take_factor` meets its contract. Assumes nothing.
 use native.Mathlib.Omega.{arith}
-use mathlib.Core.Path.{refl}
 use Prim.Native.Nat.{_+_}
 use Rattle.lines.specs.Settling.{settleFactor}
 use Rattle.lines.proofs.Settlings.{field-after, field-more}

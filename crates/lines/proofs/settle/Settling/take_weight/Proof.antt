@@ -1,6 +1,5 @@
 -- `Settling::take_weight` meets its contract. Assumes nothing.
 use native.Mathlib.Omega.{arith}
-use mathlib.Core.Path.{refl}
 use Rattle.lines.specs.Settling.{certificateOf, settleWeight}
 use mathlib.Core.Path.{ap, _∙_}
 use Rattle.lines.proofs.Settlings.{field-after, weight-kept}
