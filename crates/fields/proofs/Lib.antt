@@ -6,6 +6,8 @@ pub mod Scans
 pub mod Certificates
 pub mod Spellings
 pub mod Puts
+pub mod Starts
 -- what the functions' proofs need, and no caller's
 mod Reading
+mod Quicks
 mod Writing

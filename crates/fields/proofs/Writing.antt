@@ -129,6 +129,10 @@ module _ (base k n : ℕ) (l : List ℕ) (at : ℕ) (b : List ℕ) (i m : ℕ) (
       let f : fixed base k n ≡ w .tail = w .whole ∙ rw z in
       rw (f, ← q) (w .done)
 
+-- `put_float`: i counts from the place on
+pub left-step : (base k n : ℕ) (l : List ℕ) (at : ℕ) (b : List ℕ) (i m : ℕ) → Left base k n l at b (at + i) m → 0 < i → (c : ℕ) → c ≡ charOf (m % base) → Left base k n l at (set b (at + (i - 1)) c) (at + (i - 1)) (m / base)
+left-step base k n l at b i m w h c e = let q : at + (i - 1) ≡ at + i - 1 = omega arith in rw q (left-again base k n l at b (at + i) m w c (omega arith) e)
+
 -- `width`: m is the limit
 module _ (sp : Spelling) (n m : ℕ) (lim : m ≡ limit sp) where
   pub over-limit : m < n → written sp n ≡ []
@@ -177,6 +181,19 @@ pub put-digits : (sp : Spelling) (n : ℕ) (b : Bool) (l d f : List ℕ) (at k r
     → (r ≡ putEnd l at (written sp n)) × (d ≡ put l at (written sp n))
 put-digits sp n b l d f at k r e t q g p s =
     put-done l d at r (written sp n) (room-is l at (written sp n) b k e q t) (omega arith) (s ∙ rw g)
+
+-- a float's digits are sixteen
+module _ (sp : Spelling) (n m : ℕ) (lim : m ≡ limit sp) (h : n ≤ m) (k : ℕ) (q : k ≡ length (written sp n)) (e : sp ≡ Hex16) (b : Bool) (at : ℕ) (l : List ℕ) (be : b ≡ leb (at + k) (length l)) (t : not b ≡ false) where
+  sixteen : k ≡ 16
+  sixteen = q ∙ sym (width-hex16 sp n m lim h e)
+
+  pub float-room : at + 16 ≤ length l
+  float-room = let z = sixteen in let r = room-here b at k (length l) be t in omega arith
+
+  pub float-put : (d : List ℕ) (r : ℕ) → r ≡ at + 16 → d ≡ sets l at (fixed 16 16 n) → (r ≡ putEnd l at (written sp n)) × (d ≡ put l at (written sp n))
+  float-put d r p s =
+      let z = sixteen in
+      put-digits sp n b l d (fixed 16 16 n) at k r be t q (ap (λ (x : ℕ). fixed 16 x n) (sym z) ∙ digits-hex16 sp n m lim h k q e) (omega arith) s
 
 pub put-same : (sp tp : Spelling) (n : ℕ) (l d : List ℕ) (at r : ℕ) → sp ≡ tp → (r ≡ putEnd l at (written tp n)) × (d ≡ put l at (written tp n)) → (r ≡ putEnd l at (written sp n)) × (d ≡ put l at (written sp n))
 put-same sp tp n l d at r e p = rw e p

@@ -40,3 +40,9 @@ decimalIn (suc k) n = pick (ltb n 10) (charOf n ∷ []) (decimalIn k (n / 10) ++
 
 unfoldable pub decimal : ℕ → List ℕ
 decimal n = decimalIn (suc n) n
+
+-- the decimal digits that bytes start with, k at the most
+unfoldable pub digitsOf : ℕ → List ℕ → List ℕ
+digitsOf zero cs = []
+digitsOf (suc k) [] = []
+digitsOf (suc k) (c ∷ cs) = pick (ltb (digitOf c) 10) (c ∷ digitsOf k cs) []

@@ -1,11 +1,12 @@
 -- A field: what its bytes say in each spelling, the one spelling of each number, and the order of its checks.
-use Prim.Native.Nat.{ℕ, suc, _-_, _*_, _^_}
+use Prim.Native.Nat.{ℕ, suc, _+_, _-_, _*_, _^_}
 use mathlib.Core.List.{List, [], _∷_}
 use mathlib.Core.Bool.{Bool, true, false, _&&_}
 use lib.Dec.{leb, eqb}
+use lib.ListN.{length, take, drop}
 use Rattle.units.specs.Limits.{labelTop, factorDigits, factorScale}
-use Rattle.fields.specs.Digits.{pick, valueFrom, fixedIn, fixed, decimal}
-use Rattle.fields.specs.Text.{fieldAt, nextAt}
+use Rattle.fields.specs.Digits.{pick, valueFrom, fixedIn, fixed, decimal, digitsOf}
+use Rattle.fields.specs.Text.{firstField, fieldAt, nextAt}
 use Rattle.fields.specs.declared.digit.Digits.{Digits}
 use Rattle.fields.specs.declared.digit.Digits.the-variants.{Said, Wrong}
 use Rattle.fields.specs.declared.spelling.Spelling.{Spelling}
@@ -73,3 +74,20 @@ readField sp low high next cs = judge sp low high next (saidBy sp cs)
 -- the field of a text that starts at a place
 unfoldable pub readAt : List ℕ → ℕ → Spelling → ℕ → ℕ → Field
 readAt text at sp low high = readField sp low high (nextAt text at) (fieldAt text at)
+
+-- the bytes that a spelling can have where others start with it: sixteen digits at the most, a fixed number of bytes, or a whole field
+unfoldable pub startOf : Spelling → List ℕ → List ℕ
+startOf Decimal cs = digitsOf 16 cs
+startOf Hex4 cs = take 4 cs
+startOf Hex16 cs = take 16 cs
+startOf Factor cs = firstField cs
+
+-- the number whose spelling stands at a place, whatever comes after it, and the place after it
+unfoldable pub readHere : List ℕ → ℕ → Spelling → ℕ → ℕ → Field
+readHere text at sp low high = readField sp low high (at + length (startOf sp (drop at text))) (startOf sp (drop at text))
+
+-- a field with its place one less
+abbrev pub earlier : Field → Field
+earlier (Value n next) = Value n (next - 1)
+earlier Form = Form
+earlier Range = Range

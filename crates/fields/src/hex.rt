@@ -52,3 +52,18 @@ pub(crate) fn put_hex(buf: &mut [u8], at: usize, k: usize, n: u64) -> usize
     }
     end
 }
+
+// Puts the sixteen hex digits of a number, from the last to the first.
+pub(crate) fn put_float(buf: &mut [u8], at: usize, n: u64) -> usize
+    requires { ⌜ at + 16 ≤ length (now buf) ⌝ }
+    ensures { λ r. ⌜ (r ≡ at + 16) × (now (buf .exit) ≡ sets (now (buf .entry)) at (fixed 16 16 n)) ⌝ }
+{
+    let mut i: usize = 16;
+    let mut m = n;
+    while 0 < i {
+        i -= 1;
+        buf[at + i] = byte_of(m % 16);
+        m = m / 16;
+    }
+    at + 16
+}

@@ -5,6 +5,7 @@ ghost use Rattle.fields.specs.Put.{put, putEnd, written};
 use crate::decimal::decimal_width;
 use crate::decimal::put_decimal;
 use crate::factor::put_factor;
+use crate::hex::put_float;
 use crate::hex::put_hex;
 use crate::put::has_room;
 use crate::spelling::Spelling;
@@ -39,7 +40,7 @@ pub fn put_at(buf: &mut [u8], at: usize, spelling: Spelling, n: u64) -> usize
     match spelling {
         Spelling::Decimal => put_decimal(buf, at, k, n),
         Spelling::Hex4 => put_hex(buf, at, k, n),
-        Spelling::Hex16 => put_hex(buf, at, k, n),
+        Spelling::Hex16 => put_float(buf, at, n),
         Spelling::Factor => put_factor(buf, at, n),
     }
 }

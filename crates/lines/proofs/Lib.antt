@@ -5,6 +5,7 @@ mod Walking
 mod Making
 mod Stages
 mod Openings
+mod Firsts
 mod Adding
 mod Putting
 mod Sending
@@ -12,6 +13,7 @@ mod Settlings
 mod Runs
 pub mod Spelled
 pub mod Wire
+mod Straights
 mod Arrays
 mod Quantities
 pub mod Meaning

@@ -2,12 +2,13 @@
 use Prim.Native.Nat.{ℕ, _+_, _*_, _%_, _^_, _≤_, _<_}
 use mathlib.Core.Path.{_≡_, refl, _∙_}
 use mathlib.Core.List.{List}
-use mathlib.Core.Bool.{Bool, true, false}
+use mathlib.Core.Bool.{Bool, true, false, _&&_}
 use native.Mathlib.Omega.{arith}
 use lib.Count.{ones}
 use lib.Ieee.{Float}
+use lib.Dec.{eqb}
 use lib.ListN.{getD}
-use borrow.Author.Tests.{lt-ltb, le-ltb}
+use borrow.Author.Tests.{lt-ltb, le-ltb, eqb-true}
 use Rattle.units.specs.declared.estimate.Estimate.{Estimate}
 use Rattle.units.specs.declared.settings.Group.{Group}
 use Rattle.units.specs.Mask.{inMask}
@@ -18,11 +19,13 @@ use Rattle.message.specs.declared.head.Head.{Head}
 use Rattle.message.specs.declared.head.Carried.{Carried}
 use Rattle.message.specs.declared.value.Message.{Message}
 use Rattle.message.specs.Head.{carried}
+use Rattle.message.specs.Message.{plain}
+use Rattle.units.proofs.Every.{and-left, and-right}
 use Rattle.lines.specs.declared.kind.Kind.{Kind}
 use Rattle.lines.specs.Lists.{column}
 use Rattle.lines.specs.Table.{runsOf}
 use Rattle.lines.specs.Values.{pickWord, tally, headOf, readingIn, estimateIn, targetIn, messageWith, messageOf}
-use Rattle.lines.proofs.Columns.{column-same, bits-step, bits-few, no-run}
+use Rattle.lines.proofs.Columns.{column-same, fill-start, fill-done, bits-step, bits-few, no-run}
 
 pub head-in : {kind k : Kind} (a b c d : ℕ) {r : Head} → kind ≡ k → r ≡ headOf k a b c d → r ≡ headOf kind a b c d
 head-in a b c d e h = rw e h
@@ -72,6 +75,20 @@ pub message-made : (s : Group) (head h : Head) (c : Carried) (v readings : List 
     → targets ≡ column (targetIn (c .targets) v) 16 → _≡_ {A = Message} (record { head = head; readings = readings; estimates = estimates; targets = targets }) (messageWith s h v)
 unfolding messageWith
 message-made s head h c v readings estimates targets he ce p q r = rw (p, q, r, ce, he)
+
+-- a head that carries nothing stands alone
+pub plain-made : (s : Group) (head h : Head) (c : Carried) (v : List ℕ) (m : Message) → head ≡ h → c ≡ carried s head → (eqb (c .readings) 0 && eqb (c .estimates) 0 && eqb (c .targets) 0) ≡ true → m ≡ plain head → m ≡ messageWith s h v
+unfolding plain pick
+plain-made s head h c v m he ce t me =
+    let ab = and-left (eqb (c .readings) 0 && eqb (c .estimates) 0) (eqb (c .targets) 0) t in
+    let a = eqb-true (c .readings) 0 (and-left (eqb (c .readings) 0) (eqb (c .estimates) 0) ab) in
+    let b = eqb-true (c .estimates) 0 (and-right (eqb (c .readings) 0) (eqb (c .estimates) 0) ab) in
+    let d = eqb-true (c .targets) 0 (and-right (eqb (c .readings) 0 && eqb (c .estimates) 0) (eqb (c .targets) 0) t) in
+    me
+    ∙ message-made s head h c v _ _ _ he ce
+    (fill-done _ 0 0 _ 0 (fill-start (readingIn (c .readings) v) 0 0) (λ j i l. no-readings (c .readings) v j a))
+    (fill-done _ blank blank _ 0 (fill-start (estimateIn (c .estimates) v) blank blank) (λ j i l. rw (b, le-ltb j 0 (omega arith))))
+    (fill-done _ nought nought _ 0 (fill-start (targetIn (c .targets) v) nought nought) (λ j i l. rw (d, le-ltb j 0 (omega arith))))
 
 -- a message depends on each number, and on nothing else of their list
 arrays-same : (s : Group) (a : Head) (v w : List ℕ) → ((i : ℕ) → getD v i 0 ≡ getD w i 0) → messageWith s a v ≡ messageWith s a w

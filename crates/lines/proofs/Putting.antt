@@ -1,12 +1,14 @@
 -- What the functions need that put a line into a buffer. Assumes nothing.
 use Prim.Native.Nat.{ℕ, zero, suc, _+_, _*_, _≤_, _<_}
-use mathlib.Core.Path.{_≡_, refl, ap, _∙_}
+use mathlib.Core.Path.{_≡_, refl, sym, ap, _∙_}
+use mathlib.Core.Bool.{Bool, true, false, not}
+use lib.Dec.{leb}
 use mathlib.Core.List.{List, [], _∷_, _++_, append-nil}
 use native.Mathlib.Omega.{arith}
 use native.Mathlib.Numerals.{add-one}
 use lib.ListN.{length, getD, take, drop, set, length-append, length-set}
 use lib.Seq.{sets, sets-eq, getD-take, length-take-le}
-use borrow.Author.Tests.{lt-ltb, le-ltb}
+use borrow.Author.Tests.{lt-ltb, le-ltb, le-leb, leb-true, leb-false, not-true, not-false}
 use Rattle.units.specs.declared.refusal.Refusal.the-variants.{Room}
 use Rattle.units.specs.Pick.{pick}
 use Rattle.fields.specs.declared.spelling.Spelling.{Spelling}
@@ -127,3 +129,16 @@ module _ (kind : Kind) (v : List ℕ) (n : ℕ) (h : n ≤ length v) where
 
       pub feed-room : (c e : ℕ) (d : List ℕ) → e ≡ 1 + length (tabbed (textsTo kind v n)) → length d ≡ length (set b 0 c) → e < length d
       feed-room c e d ee de = let a = length-set b 0 c in omega arith
+
+-- `is_enough_for`
+pub room-sure : (kind : Kind) (v : List ℕ) (n len : ℕ) → 2 + 17 * n ≤ len → true ≡ leb (2 + length (tabbed (textsTo kind v n))) len
+room-sure kind v n len h = sym (le-leb (2 + length (tabbed (textsTo kind v n))) len (let a = texts-short kind v n in omega arith))
+
+pub room-counted : (kind : Kind) (v : List ℕ) (n len w : ℕ) → w ≡ length (tabbed (textsTo kind v n)) → leb (2 + w) len ≡ leb (2 + length (tabbed (textsTo kind v n))) len
+room-counted kind v n len w e = rw e
+
+pub room-not : (b : Bool) (m len : ℕ) → b ≡ leb m len → not b ≡ true → len < m
+room-not b m len e t = leb-false m len (sym e ∙ not-true b t)
+
+pub room-yes : (b : Bool) (m len : ℕ) → b ≡ leb m len → not b ≡ false → m ≤ len
+room-yes b m len e t = leb-true m len (sym e ∙ not-false b t)

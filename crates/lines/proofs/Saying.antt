@@ -425,7 +425,7 @@ module _ (s : Group) (a : Message) (F : Fits s a) (sender : ℕ) (label : RoundL
       }
 
 -- ALL KINDS but X, which is only written
-pub notX : Head → Bool
+unfoldable pub notX : Head → Bool
 notX h = not (eqb (letterOf (kindIs h)) 88)
 
 pub saying : (s : Group) (a : Message) (h : Head) → a .head ≡ h → notX h ≡ true → Fits s a → Said (kindIs h) s a
@@ -459,3 +459,20 @@ readable (VotingEnds label) x = refl
 readable (Floor label) x = refl
 readable (Start own floor) x = refl
 readable (Refused number) x = absurd-by (cc)
+
+-- a head that is no X's
+pub not-x : (h : Head) → ((number : ℕ) → h ≡ Refused number → ⊥) → notX h ≡ true
+unfolding kindIs notX
+not-x (Reading label run raw) f = refl
+not-x (Query sender label mask) f = refl
+not-x (Reply sender label mask) f = refl
+not-x (Advert sender state) f = refl
+not-x (Update sender state) f = refl
+not-x (Vote sender label digest) f = refl
+not-x (Setpoints sender label digest) f = refl
+not-x (Due label) f = refl
+not-x (CollectingEnds label) f = refl
+not-x (VotingEnds label) f = refl
+not-x (Floor label) f = refl
+not-x (Start own floor) f = refl
+not-x (Refused number) f = absurd (f number refl)

@@ -46,7 +46,7 @@ pub record Read (S : List ℕ → Limit) (us vs : List ℕ) (fs : List (List ℕ
   pub spelt : fs ≡ spelledAll S us rest
   pub fit : fitAll S us rest ≡ true
 
-read-only : (S : List ℕ → Limit) (us : List ℕ) (fs : List (List ℕ)) (vs : List ℕ) → readAll S us fs ≡ values vs → Read S us vs fs
+pub read-only : (S : List ℕ → Limit) (us : List ℕ) (fs : List (List ℕ)) (vs : List ℕ) → readAll S us fs ≡ values vs → Read S us vs fs
 unfolding readAll spelledAll fitAll
 read-only S us [] vs e = record { rest = []; joined = (let q : us ≡ vs = cc in sym q) ∙ sym (append-nil us); spelt = refl; fit = refl }
 read-only S us (f ∷ fs) vs e = go (readBy (S us) f) refl e (λ n d. read-only S (us ++ (n ∷ [])) fs vs d)
@@ -74,7 +74,7 @@ read-back S us (n ∷ ws) e =
     rw (field-read (S us .spelling) (S us .low) (S us .high) 0 n a) (read-back S (us ++ (n ∷ [])) ws b ∙ ap values (append-assoc us (n ∷ []) ws))
 
 -- TWO STAGES ARE ONE
-read-join : (S : List ℕ → Limit) (us xs : List ℕ) (fs gs : List (List ℕ)) → readAll S us fs ≡ values xs → readAll S us (fs ++ gs) ≡ readAll S xs gs
+pub read-join : (S : List ℕ → Limit) (us xs : List ℕ) (fs gs : List (List ℕ)) → readAll S us fs ≡ values xs → readAll S us (fs ++ gs) ≡ readAll S xs gs
 unfolding readAll
 read-join S us xs [] gs e = ap (λ (l : List ℕ). readAll S l gs) (cc)
 read-join S us xs (f ∷ fs) gs e = go (readBy (S us) f) refl e (λ n d. read-join S (us ++ (n ∷ [])) xs fs gs d)
@@ -86,7 +86,7 @@ read-join S us xs (f ∷ fs) gs e = go (readBy (S us) f) refl e (λ n d. read-jo
     go Form p d ih = absurd-by (cc)
     go Range p d ih = absurd-by (cc)
 
-spelled-length : (S : List ℕ → Limit) (us ws : List ℕ) → length (spelledAll S us ws) ≡ length ws
+pub spelled-length : (S : List ℕ → Limit) (us ws : List ℕ) → length (spelledAll S us ws) ≡ length ws
 unfolding spelledAll
 spelled-length S us [] = refl
 spelled-length S us (n ∷ ws) = ap suc (spelled-length S (us ++ (n ∷ [])) ws)

@@ -46,7 +46,7 @@ unfolding pick
 letter-test c l k j rest q =
     by-test (eqb c l) (λ t. rw t (λ e go. let z : k ≡ j = cc in eqb-true c l t ∙ sym q ∙ ap letterOf z)) (λ t. rw t (λ e go. go e))
 
-letter-only : (c : ℕ) (j : Kind) → kindOf c ≡ Known j → c ≡ letterOf j
+pub letter-only : (c : ℕ) (j : Kind) → kindOf c ≡ Known j → c ≡ letterOf j
 unfolding kindOf
 letter-only c j e₀ =
     letter-test c 77 Reading j _ refl e₀ (λ e₁. letter-test c 81 Query j _ refl e₁ (λ e₂. letter-test c 82 Reply j _ refl e₂ (λ e₃. letter-test c 65 Advert j _ refl e₃

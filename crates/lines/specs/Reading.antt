@@ -22,6 +22,7 @@ use Rattle.lines.specs.declared.kind.Kind.{Kind}
 use Rattle.lines.specs.declared.kind.Found.{Found}
 use Rattle.lines.specs.declared.kind.Found.the-variants.{Known, Unknown}
 use Rattle.lines.specs.declared.read.Line.{Line}
+use Rattle.lines.specs.declared.read.First.{First}
 use Rattle.lines.specs.declared.table.Limit.{Limit}
 use Rattle.lines.specs.Table.{letterOf, kindOf, limitOf, countOf}
 use Rattle.lines.specs.Values.{messageOf}
@@ -90,3 +91,11 @@ unfoldable pub readLine : Group → List ℕ → Line
 readLine s line =
     pick (groupFits s) (pick (leb (length line) lineTop) (pick (ended line) (readText s (until lineFeed line)) (refusedLine Unended)) (refusedLine Long))
     (refusedLine NoRange)
+
+-- the input up to and with its first line feed; the whole input where there is none
+abbrev pub firstOf : List ℕ → List ℕ
+firstOf input = take (length (until lineFeed input) + 1) input
+
+-- an input's first line, and the place of its line feed
+unfoldable pub firstLine : Group → List ℕ → First
+firstLine s input = record { line = readLine s (firstOf input); feed = length (until lineFeed input) }

@@ -4,12 +4,14 @@ pub mod numbers;
 pub mod read;
 pub mod setting;
 pub mod settle;
+pub mod straight;
 pub mod table;
 pub mod typed;
 pub mod values;
 pub mod write;
 
 pub use kind::Kind;
+pub use read::First;
 pub use read::Line;
 pub use table::Limit;
 pub use table::Quantity;

@@ -1,16 +1,26 @@
 // THE READER: what a line says, or why it is refused.
 ghost use mathlib.Core.Path.{_≡_};
-ghost use Prim.Native.Nat.{_+_};
-ghost use lib.ListN.{length};
-ghost use Rattle.fields.specs.Text.{firstField, laterFields, tabsIn};
-ghost use Rattle.lines.specs.Reading.{kindIn, lineWith, readLine, readText, readValues, refusedLine};
+ghost use mathlib.Core.Bool.{true};
+ghost use Prim.Native.Nat.{_<_};
+ghost use lib.ListN.{length, getD};
+ghost use Rattle.units.specs.Settings.{groupFits};
+ghost use Rattle.fields.specs.Text.{firstField, laterFields, scanned, tabsIn};
+ghost use Rattle.lines.specs.declared.kind.Found.{Found};
+ghost use Rattle.lines.specs.declared.kind.Kind.{Kind};
+ghost use Rattle.lines.specs.Table.{kindOf};
+ghost use Rattle.lines.specs.Reading.{firstLine, firstOf, kindIn, lineWith, readLine, readText, readValues, refusedLine};
 use crate::kind::Found;
 use crate::kind::Kind;
 use crate::kind::kind_of;
+use crate::straight::numbers_in;
+use crate::straight::reading_in;
 use crate::typed::message_of;
 use crate::values::read_values;
+use fields::Scan;
 use fields::scan;
+use fields::text::LINE_FEED;
 use fields::text::ends_at;
+use fields::text::is_at;
 use message::Head;
 use message::Message;
 use units::Group;
@@ -90,4 +100,114 @@ pub fn read(line: &[u8], group: Group) -> Line
         return refused(Refusal::Unended);
     }
     read_text(&line[..feed], group, tabs)
+}
+
+// What the reader says of an input's first line, and the place of its line feed; the input's length where there is none.
+pub struct First {
+    pub line: Line,
+    pub feed: usize,
+}
+
+// The first line of an input that is scanned already.
+fn read_seen(input: &[u8], group: Group, seen: Scan) -> Line
+    requires { ⌜ seen ≡ scanned (now input) ⌝ }
+    ensures { λ r. ⌜ r ≡ readLine group (firstOf (now (input .entry))) ⌝ }
+{
+    let feed = seen.feed;
+    let tabs = seen.tabs;
+    if !group.in_range() {
+        return refused(Refusal::Range);
+    }
+    if LINE < feed {
+        return refused(Refusal::Long);
+    }
+    if feed == input.len() {
+        return refused(Refusal::Unended);
+    }
+    if feed == LINE {
+        return refused(Refusal::Long);
+    }
+    read_text(&input[..feed], group, tabs)
+}
+
+// What the first line of an input says: its fields are counted, then each is judged.
+fn read_with_care(input: &[u8], group: Group) -> First
+    ensures { λ r. ⌜ r ≡ firstLine group (now (input .entry)) ⌝ }
+{
+    let seen = scan(input);
+    let line = read_seen(input, group, seen);
+    First {
+        line,
+        feed: seen.feed,
+    }
+}
+
+// The same, read straight on where all is as it should be.
+fn read_straight(input: &[u8], kind: Kind, group: Group) -> First
+    requires { ⌜ (groupFits group ≡ true) × (0 < length (now input)) × (kindOf (getD (now input) 0 0) ≡ Found.Known kind) ⌝ }
+    ensures { λ r. ⌜ r ≡ firstLine group (now (input .entry)) ⌝ }
+{
+    let mut v = [0u64; 34];
+    let trail = numbers_in(input, kind, group, &mut v);
+    let good = trail.good;
+    let at = trail.at;
+    if !good {
+        return read_with_care(input, group);
+    }
+    if !is_at(input, at, LINE_FEED) {
+        return read_with_care(input, group);
+    }
+    let message = message_of(kind, group, &v);
+    First {
+        line: Line {
+            verdict: Verdict::Taken,
+            message,
+        },
+        feed: at,
+    }
+}
+
+// A line M, straight on.
+fn read_reading(input: &[u8], group: Group) -> First
+    requires { ⌜ (groupFits group ≡ true) × (0 < length (now input)) × (kindOf (getD (now input) 0 0) ≡ Found.Known Kind.Reading) ⌝ }
+    ensures { λ r. ⌜ r ≡ firstLine group (now (input .entry)) ⌝ }
+{
+    let mut v = [0u64; 34];
+    let trail = reading_in(input, group, &mut v);
+    let good = trail.good;
+    let at = trail.at;
+    if !good {
+        return read_with_care(input, group);
+    }
+    if !is_at(input, at, LINE_FEED) {
+        return read_with_care(input, group);
+    }
+    let message = message_of(Kind::Reading, group, &v);
+    First {
+        line: Line {
+            verdict: Verdict::Taken,
+            message,
+        },
+        feed: at,
+    }
+}
+
+// What the first line of an input says in a group, in one pass over its bytes where nothing is refused.
+pub fn read_first(input: &[u8], group: Group) -> First
+    ensures { λ r. ⌜ r ≡ firstLine group (now (input .entry)) ⌝ }
+{
+    if !group.in_range() {
+        return read_with_care(input, group);
+    }
+    if input.len() == 0 {
+        return read_with_care(input, group);
+    }
+    let letter = input[0];
+    if letter == b'M' {
+        return read_reading(input, group);
+    }
+    match kind_of(letter) {
+        Found::Known(kind) => read_straight(input, kind, group),
+        Found::Unknown => read_with_care(input, group),
+    }
 }

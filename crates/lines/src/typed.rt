@@ -179,6 +179,9 @@ pub(crate) fn message_of(kind: Kind, group: Group, v: &[u64; 34]) -> Message
 {
     let head = head_of(kind, v[0], v[1], v[2], v[3]);
     let carried = head.carries(group);
+    if (carried.readings == 0) & (carried.estimates == 0) & (carried.targets == 0) {
+        return Message::plain(head);
+    }
     let readings = readings_in(carried.readings, v);
     let estimates = estimates_in(carried.estimates, v);
     let targets = targets_in(carried.targets, v);

@@ -32,7 +32,7 @@ fn stopped(why: Refusal, at: usize) -> Walk
 }
 
 // The label among the numbers before a place, where it is read already.
-fn label_in(v: &[u64; 34], place: usize) -> u64
+pub(crate) fn label_in(v: &[u64; 34], place: usize) -> u64
     ensures { λ r. ⌜ r ≡ getD (take place (now (v .entry))) 1 0 ⌝ }
 {
     if 1 < place { v[1] } else { 0 }

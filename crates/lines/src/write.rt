@@ -1,6 +1,7 @@
 // THE WRITER: a message's line straight into a lent buffer.
 ghost use mathlib.Core.Path.{_≡_};
 ghost use Prim.Native.Nat.{_+_, _*_, _≤_};
+ghost use lib.Dec.{leb};
 ghost use lib.ListN.{length, take};
 ghost use lib.Seq.{sets};
 ghost use Rattle.fields.specs.Text.{tabbed};
@@ -66,19 +67,29 @@ fn put_numbers(buf: &mut [u8], kind: Kind, v: &[u64; 34], n: usize) -> usize
     at
 }
 
+// Whether so many bytes are enough for a line; they are counted only where the longest line of n numbers would not fit.
+fn is_enough_for(len: usize, kind: Kind, v: &[u64; 34], n: usize) -> bool
+    requires { ⌜ n ≤ 34 ⌝ }
+    ensures { λ r. ⌜ r ≡ leb (2 + length (tabbed (textsTo kind (now (v .entry)) n))) len ⌝ }
+{
+    if 2 + 17 * n <= len {
+        return true;
+    }
+    2 + widths(kind, v, n) <= len
+}
+
 // Puts a whole line of the first n numbers, or 16 where there is no room for it.
 pub(crate) fn put_line(buf: &mut [u8], kind: Kind, v: &[u64; 34], n: usize) -> Written
     requires { ⌜ (n ≤ 34) × (length (now v) ≡ 34) ⌝ }
     ensures { λ r. ⌜ (r ≡ answerOf (lineOf kind (take n (now (v .entry)))) (now (buf .entry))) × (now (buf .exit) ≡ bufferOf (lineOf kind (take n (now (v .entry)))) (now (buf .entry))) ⌝ }
 {
-    let len = 2 + widths(kind, v, n);
-    if buf.len() < len {
+    if !is_enough_for(buf.len(), kind, v, n) {
         return Written::Refused(Refusal::Room);
     }
     buf[0] = kind.letter();
     let end = put_numbers(buf, kind, v, n);
     buf[end] = LINE_FEED;
-    Written::Done { len }
+    Written::Done { len: end + 1 }
 }
 
 // Writes a message's line: 6 before 16, and nothing where either is given.

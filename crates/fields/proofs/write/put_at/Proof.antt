@@ -1,6 +1,6 @@
 -- `put_at` meets its contract. Assumes nothing.
 use Rattle.fields.specs.declared.spelling.Spelling.the-variants.{Factor}
-use Rattle.fields.proofs.Writing.{over-limit, put-nothing, put-refused, room-here, put-digits, digits-decimal, digits-hex4, digits-hex16, put-same}
+use Rattle.fields.proofs.Writing.{over-limit, put-nothing, put-refused, room-here, put-digits, digits-decimal, digits-hex4, float-room, float-put, put-same}
 use borrow.Author.Needs.{needs}
 use Rattle.fields.proofs.write.put_at.Statement.{statement}
 use Rattle.fields.proofs.write.put_at.Tie as tie
@@ -35,8 +35,8 @@ put-hex-requires c κs = search (needs, room-here)
 enum-told-3 : tie.Need-enum-told-3
 enum-told-3 c = search needs
 
-put-hex-requires-2 : tie.Need-put-hex-requires-2
-put-hex-requires-2 c κs = search (needs, room-here)
+put-float-requires : tie.Need-put-float-requires
+put-float-requires c κs = let a = c .before .before .before .before .before .before .before .before .before .args in float-room (a .spelling) (a .n) _ (c .before .before .before .before .before .before .before .limit .ensures) (c .before .before .before .before .before .before .if1 .left) _ (c .before .before .before .before .before .width .ensures) (c .before .enum-told3 .given .1) _ (a .at) (a .buf .now) (c .before .before .before .before .has-room .ensures) (c .before .before .before .if2 .left)
 
 enum-told-4 : tie.Need-enum-told-4
 enum-told-4 c = search needs
@@ -68,11 +68,7 @@ same-length-3 : tie.Need-same-length-3
 same-length-3 c = search needs
 
 returns-5 : tie.Need-returns-5
-returns-5 c = let a = c .before .before .before .before .before .before .before .before .before .before .before .before .args in
-    let w = c .before .before .before .before .before .before .before .before .width .ensures in
-    put-digits (a .spelling) (a .n) _ (a .buf .now) _ _ (a .at) _ _ (c .before .before .before .before .before .before .before .has-room .ensures) (c .before .before .before .before .before .before .if2 .left) w
-    (digits-hex16 (a .spelling) (a .n) _ (c .before .before .before .before .before .before .before .before .before .before .limit .ensures) (c .before .before .before .before .before .before .before .before .before .if1 .left) _ w (c .before .before .before .before .enum-told3 .given .1))
-    (c .before .before .put-hex2 .ensures .0) (c .before .before .put-hex2 .ensures .1)
+returns-5 c = let a = c .before .before .before .before .before .before .before .before .before .before .before .before .args in float-put (a .spelling) (a .n) _ (c .before .before .before .before .before .before .before .before .before .before .limit .ensures) (c .before .before .before .before .before .before .before .before .before .if1 .left) _ (c .before .before .before .before .before .before .before .before .width .ensures) (c .before .before .before .before .enum-told3 .given .1) _ (a .at) (a .buf .now) (c .before .before .before .before .before .before .before .has-room .ensures) (c .before .before .before .before .before .before .if2 .left) _ _ (c .before .before .put-float .ensures .0) (c .before .before .put-float .ensures .1)
 
 same-length-4 : tie.Need-same-length-4
 same-length-4 c = search needs
@@ -94,7 +90,7 @@ put-at-spec =
     enum-told-2
     put-hex-requires
     enum-told-3
-    put-hex-requires-2
+    put-float-requires
     enum-told-4
     put-factor-requires
     same-length

@@ -1,5 +1,5 @@
 -- `message_of` meets its contract. Assumes nothing.
-use Rattle.lines.proofs.Making.{message-made}
+use Rattle.lines.proofs.Making.{message-made, plain-made}
 use borrow.Author.Needs.{needs}
 use Rattle.lines.proofs.typed.message_of.Statement.{statement}
 use Rattle.lines.proofs.typed.message_of.Tie as tie
@@ -22,6 +22,12 @@ head-of-requires c κs = search needs
 carries-requires : tie.Need-carries-requires
 carries-requires c κs = search needs
 
+plain-requires : tie.Need-plain-requires
+plain-requires c κs = search needs
+
+returns : tie.Need-returns
+returns c = plain-made _ _ _ _ _ _ (c .before .before .before .before .before .before .head-of .ensures) (c .before .before .before .before .before .carries .ensures) (c .before .if1 .taken) (c .plain .ensures)
+
 readings-in-requires : tie.Need-readings-in-requires
 readings-in-requires c κs = search needs
 
@@ -31,8 +37,8 @@ estimates-in-requires c κs = search needs
 targets-in-requires : tie.Need-targets-in-requires
 targets-in-requires c κs = search needs
 
-returns : tie.Need-returns
-returns c = message-made _ _ _ _ _ _ _ _ (c .before .before .before .before .head-of .ensures) (c .before .before .before .carries .ensures) (c .before .before .readings-in .ensures) (c .before .estimates-in .ensures) (c .targets-in .ensures)
+returns-2 : tie.Need-returns-2
+returns-2 c = message-made _ _ _ _ _ _ _ _ (c .before .before .before .before .before .before .before .before .head-of .ensures) (c .before .before .before .before .before .before .before .carries .ensures) (c .before .before .readings-in .ensures) (c .before .estimates-in .ensures) (c .targets-in .ensures)
 
 pub message-of-spec : {M : Type 1} → statement M
 message-of-spec =
@@ -44,7 +50,9 @@ message-of-spec =
     element-copy-out-head-of-4
     head-of-requires
     carries-requires
+    plain-requires
+    returns
     readings-in-requires
     estimates-in-requires
     targets-in-requires
-    returns)
+    returns-2)
