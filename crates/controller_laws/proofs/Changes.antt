@@ -196,7 +196,8 @@ none-cast (suc n) (suc i) = none-cast n i
 not-missing : {A : Type 0} {d : Digest} → Missing ≡ Cast d → A
 not-missing p = let z : _≡_ {A = ℕ} 0 1 = cc in absurd (omega arith)
 
-no-vote : {A : Type 0} (i : ℕ) {d : Digest} → getD (replicate controllersTop nobody) i nobody .ballot ≡ Cast d → A
+-- a start holds no vote
+pub no-vote : {A : Type 0} (i : ℕ) {d : Digest} → getD (replicate controllersTop nobody) i nobody .ballot ≡ Cast d → A
 no-vote i h = not-missing (sym (ap (λ (x : Seat). x .ballot) (none-cast controllersTop i)) ∙ h)
 
 same-digest : {d e : Digest} → Cast d ≡ Cast e → d ≡ e

@@ -9,4 +9,6 @@ pub mod Decided
 pub mod Sendings
 pub mod Rises
 pub mod Changes
+pub mod Outcomes
+pub mod Clashes
 pub mod Session

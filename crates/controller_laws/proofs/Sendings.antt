@@ -8,6 +8,7 @@ use lib.Bits.{bitAnd, and-le-r}
 use lib.Ieee.{nan}
 use lib.ListN.{replicate, getD-replicate}
 use borrow.Author.Tests.{lt-ltb, le-leb}
+use Rattle.units.specs.declared.refusal.Verdict.the-variants.{Taken}
 use Rattle.units.specs.declared.settings.Group.{Group}
 use Rattle.units.specs.declared.settings.Numbers.{Numbers}
 use Rattle.units.specs.Labels.{roundFits}
@@ -171,6 +172,9 @@ module _ (s : Numbers) (c : Controller) (fit : numbersFit s ≡ true) (v : Valid
     way-ready (issues {chosen = chosen} w d b n) = issue-ready chosen w d
     way-ready restarts = (tt, tt)
 
+none-sent : {A : Type 0} {head : Head} → Nothing ≡ One head → A
+none-sent q = let z : _≡_ {A = ℕ} 0 1 = cc in absurd (omega arith)
+
 -- what holds of all that an answer sends holds of one of its messages
 one-of : (P : Head → Type 0) (x y : Sent) → OnSent P x → OnSent P y → (head : Head) → (x ≡ One head) ⊎ (y ≡ One head) → P head
 one-of P x y p q head w = ⊎-elim (λ e. subst (OnSent P) e p) (λ e. subst (OnSent P) e q) w
@@ -261,6 +265,39 @@ module _ (s : Numbers) (c : Controller) (a : Message) where
       way : {r : Answer} → Goes s c a r → r .first ≡ Nothing → r .second ≡ Nothing
       way (out e) q = refl
       way (led e w) q = in-order w q
+
+  -- a second message goes out only where the message at hand was taken
+  two-led : {h : Head} {p : Plan} → Leads s c a h p → (head : Head) → p .second ≡ One head → p .verdict ≡ Taken
+  unfolding afterwards
+  two-led (refused why e) head q = none-sent q
+  two-led unchanged head q = none-sent q
+  two-led (begins l k) head q = none-sent q
+  two-led (adds e n) head q = none-sent q
+  two-led (replies b n) head q = none-sent q
+  two-led (merges e n) head q = none-sent q
+  two-led (updates l) head q = none-sent q
+  two-led (adopts-idle e l) head q = none-sent q
+  two-led (adopts-before e l k) head q = none-sent q
+  two-led (adopts-past e l k) head q = none-sent q
+  two-led (asks e n) head q = none-sent q
+  two-led (adverts e l) head q = none-sent q
+  two-led (asks-and-adverts e n l) head q = refl
+  two-led (collected e) head q = none-sent q
+  two-led (lapses e) head q = none-sent q
+  two-led (counts n e f) head q = none-sent q
+  two-led (open-still w d) head q = none-sent q
+  two-led (behind w d b) head q = none-sent q
+  two-led (lacking w d b n) head q = none-sent q
+  two-led (issues {first = Nothing} w d b n) head q = none-sent q
+  two-led (issues {first = One one} w d b n) head q = refl
+  two-led restarts head q = none-sent q
+
+  pub two-taken : (head : Head) → stepped s c a .second ≡ One head → stepped s c a .verdict ≡ Taken
+  two-taken = way (goes s c a)
+    where
+      way : {r : Answer} → Goes s c a r → (head : Head) → r .second ≡ One head → r .verdict ≡ Taken
+      way (out e) head q = none-sent q
+      way (led e w) head q = two-led w head q
 
   -- ---- our vote goes out once
   abbrev Once : Head → Plan → Type 0

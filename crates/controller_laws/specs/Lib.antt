@@ -3,4 +3,5 @@ pub mod Ways
 pub mod Endings
 pub mod Sendings
 pub mod Changes
+pub mod Outcomes
 pub mod Session

@@ -1,0 +1,159 @@
+-- What sent a message, where an issued state came from, and what B does to a running controller. Assumes nothing.
+use Prim.Native.Nat.{ℕ}
+use mathlib.Core.Path.{_≡_, refl, sym, ap, subst}
+use mathlib.Core.Bool.{true}
+use mathlib.Core.Logic.{_⊎_, inl, inr, ⊎-elim}
+use Rattle.units.specs.declared.labels.RoundLabel.{RoundLabel}
+use Rattle.units.specs.declared.settings.Numbers.{Numbers}
+use Rattle.units.specs.Labels.{before}
+use Rattle.vote.specs.declared.digest.Digest.{Digest}
+use Rattle.vote.specs.declared.judge.Decision.the-variants.{Decided}
+use Rattle.message.specs.declared.head.Head.{Head}
+use Rattle.message.specs.declared.head.Head.the-variants.{Reading, Query, Reply, Advert, Update, Vote, Setpoints, Due, CollectingEnds, VotingEnds, Floor, Start, Refused}
+use Rattle.message.specs.declared.value.Message.{Message}
+use Rattle.message.specs.Message.{plain}
+use Rattle.plan.specs.declared.brief.Phase.the-variants.{Idle}
+use Rattle.plan.specs.declared.planned.Effect.the-variants.{Issue}
+use Rattle.plan.specs.declared.planned.Plan.{Plan}
+use Rattle.plan.specs.declared.planned.Sent.{Sent}
+use Rattle.plan.specs.declared.planned.Sent.the-variants.{Nothing, One}
+use Rattle.plan.specs.Plan.{afterwards}
+use Rattle.plan.specs.Votes.{ownDigest, possessed}
+use Rattle.controller.specs.declared.state.Controller.{Controller}
+use Rattle.controller.specs.declared.step.Answer.{Answer}
+use Rattle.controller.specs.State.{briefOf}
+use Rattle.controller.specs.Start.{startOf}
+use Rattle.controller.specs.Effects.{applied, counted, issuing}
+use Rattle.controller.specs.Sent.{sentMessage}
+use Rattle.controller.specs.Step.{decided, planned, inputsFit, carriedOut, stepped}
+use Rattle.controller_laws.specs.Outcomes.{Settled, SentBy, StateBy}
+use Rattle.controller_laws.specs.Outcomes.SentBy.{query, reply, advert, update, floor, vote, setpoints}
+use Rattle.controller_laws.specs.Outcomes.StateBy.{kept, adopted, issued, started}
+use Rattle.controller_laws.specs.Sendings.{IsSent, OnSent}
+use Rattle.controller_laws.specs.Ways.{Votes, Leads, Goes}
+use Rattle.controller_laws.specs.Ways.Votes.{another's, ours}
+use Rattle.controller_laws.specs.Ways.Leads.{refused, unchanged, begins, adds, replies, merges, updates, adopts-idle, adopts-before, adopts-past, asks, adverts, asks-and-adverts, collected, lapses, counts, open-still, behind, lacking, issues, restarts}
+use Rattle.controller_laws.specs.Ways.Goes.{out, led}
+use Rattle.controller_laws.proofs.Ways.{on-pick, goes}
+
+-- what holds of all that an answer sends holds of one of its messages
+one-of : (P : Head → Type 0) (x y : Sent) → OnSent P x → OnSent P y → (head : Head) → (x ≡ One head) ⊎ (y ≡ One head) → P head
+one-of P x y p q head w = ⊎-elim (λ e. subst (OnSent P) e p) (λ e. subst (OnSent P) e q) w
+
+module _ (s : Numbers) (c : Controller) (a : Message) where
+  -- ---- what sent a message
+  abbrev AllBy : Head → Plan → Type 0
+  AllBy h p = OnSent (SentBy s c h (applied s a c (p .effect))) (p .first) × OnSent (SentBy s c h (applied s a c (p .effect))) (p .second)
+
+  with-vote : {h : Head} {seat : ℕ} {digest : Digest} {first : Sent} (n : Controller) → Votes c h seat digest first → OnSent (SentBy s c h n) first
+  with-vote n (another's k e f) = tt
+  with-vote n (ours e) = vote refl e
+
+  settled : {h : Head} {seat : ℕ} {digest chosen : Digest} {first : Sent} → Votes c h seat digest first → decided s c seat digest ≡ Decided chosen → before (chosen .state) (c .label) ≡ true
+      → possessed (briefOf c) chosen ≡ true → Settled s c h chosen (issuing s (counted c seat digest Idle) chosen)
+  settled {seat = seat} {digest = digest} {first = first} w d b p =
+      record { seat = seat; digest = digest; first = first; vote = w; chose = d; older = b; here = p; next = refl }
+
+  issue-by : {h : Head} {seat : ℕ} {digest chosen : Digest} {first : Sent} → Votes c h seat digest first → decided s c seat digest ≡ Decided chosen → before (chosen .state) (c .label) ≡ true
+      → possessed (briefOf c) chosen ≡ true → AllBy h (afterwards (Issue seat digest chosen) (Setpoints (c .own) (c .label) chosen) first)
+  unfolding afterwards applied
+  issue-by (another's {sender} {digest} n e f) d b p = (setpoints (settled (another's {sender = sender} {digest = digest} n e f) d b p), tt)
+  issue-by (ours e) d b p = (vote refl e, setpoints (settled (ours e) d b p))
+
+  way-by : {h : Head} {p : Plan} → Leads s c a h p → AllBy h p
+  unfolding applied
+  way-by (refused why e) = (tt, tt)
+  way-by unchanged = (tt, tt)
+  way-by (begins l k) = (tt, tt)
+  way-by (adds e n) = (tt, tt)
+  way-by (replies {mask = mask} b n) = (reply mask refl, tt)
+  way-by (merges e n) = (tt, tt)
+  way-by (updates l) = (update refl, tt)
+  way-by (adopts-idle e l) = (tt, tt)
+  way-by (adopts-before e l k) = (tt, tt)
+  way-by (adopts-past e l k) = (tt, tt)
+  way-by (asks e n) = (query refl, tt)
+  way-by (adverts e l) = (advert refl, tt)
+  way-by (asks-and-adverts e n l) = (query refl, advert refl)
+  way-by (collected e) = (floor e, tt)
+  way-by (lapses e) = (tt, tt)
+  way-by (counts n e f) = (tt, tt)
+  way-by (open-still w d) = (with-vote _ w, tt)
+  way-by (behind w d b) = (with-vote _ w, tt)
+  way-by (lacking w d b n) = (with-vote _ w, tt)
+  way-by (issues w d b n) = issue-by w d b n
+  way-by restarts = (tt, tt)
+
+  -- each message that goes out, with the step that sends it
+  pub sent-by : (head : Head) → IsSent (stepped s c a) head → SentBy s c (a .head) (stepped s c a .next) head
+  sent-by = way (goes s c a)
+    where
+      way : {r : Answer} → Goes s c a r → (head : Head) → IsSent r head → SentBy s c (a .head) (r .next) head
+      way (out e) = one-of _ Nothing Nothing tt tt
+      way (led {p} e w) = let k = way-by w in one-of _ (p .first) (p .second) (k .0) (k .1)
+
+  -- ---- where the state comes from
+  issue-state : {h : Head} {seat : ℕ} {digest chosen : Digest} {first : Sent} → a .head ≡ h → Votes c h seat digest first → decided s c seat digest ≡ Decided chosen
+      → before (chosen .state) (c .label) ≡ true → possessed (briefOf c) chosen ≡ true
+      → StateBy s c a (carriedOut s c a (afterwards (Issue seat digest chosen) (Setpoints (c .own) (c .label) chosen) first))
+  unfolding afterwards applied
+  issue-state {chosen = chosen} u (another's {sender} {digest} n e f) d b p =
+      issued chosen (subst (λ (h : Head). Settled s c h chosen (issuing s (counted c sender digest Idle) chosen)) (sym u) (settled (another's {sender = sender} {digest = digest} n e f) d b p)) (inl refl)
+  issue-state {chosen = chosen} u (ours e) d b p =
+      issued chosen (subst (λ (h : Head). Settled s c h chosen (issuing s (counted c (c .own) (ownDigest (briefOf c)) Idle) chosen)) (sym u) (settled (ours e) d b p)) (inr refl)
+
+  way-state : {h : Head} {p : Plan} → Leads s c a h p → a .head ≡ h → StateBy s c a (carriedOut s c a p)
+  unfolding applied startOf
+  way-state (refused why e) u = kept refl refl
+  way-state unchanged u = kept refl refl
+  way-state (begins b g) u = kept refl refl
+  way-state (adds e g) u = kept refl refl
+  way-state (replies b g) u = kept refl refl
+  way-state (merges e g) u = kept refl refl
+  way-state (updates g) u = kept refl refl
+  way-state (adopts-idle {sender} e l) u = adopted sender u refl
+  way-state (adopts-before {sender} e l k) u = adopted sender u refl
+  way-state (adopts-past {sender} e l k) u = adopted sender u refl
+  way-state (asks e g) u = kept refl refl
+  way-state (adverts e g) u = kept refl refl
+  way-state (asks-and-adverts e g b) u = kept refl refl
+  way-state (collected e) u = kept refl refl
+  way-state (lapses e) u = kept refl refl
+  way-state (counts n e f) u = kept refl refl
+  way-state (open-still w z) u = kept refl refl
+  way-state (behind w z b) u = kept refl refl
+  way-state (lacking w z b g) u = kept refl refl
+  way-state (issues w z b g) u = issue-state u w z b g
+  way-state restarts u = started refl refl
+
+  -- state label and estimates change together, by U, by B, and by an issue, with which S goes out
+  pub state-by : StateBy s c a (stepped s c a)
+  state-by = way (goes s c a)
+    where
+      way : {r : Answer} → Goes s c a r → StateBy s c a r
+      way (out e) = kept refl refl
+      way (led e w) = way-state w refl
+
+  -- ---- B
+  -- a running controller that is handed B starts anew, or the step is 6 and it is as it was
+  pub start-step : (own : ℕ) (low : RoundLabel) → a .head ≡ Start own low → (stepped s c a .next ≡ c) ⊎ (stepped s c a .next ≡ startOf s own low)
+  unfolding stepped planned applied
+  start-step own low e =
+      on-pick (λ (r : Answer). (r .next ≡ c) ⊎ (r .next ≡ startOf s own low)) (inputsFit s c a) (λ _. inr (ap (λ (h : Head). applied s a c (planned s c a h .effect)) e)) (λ _. inl refl)
+
+-- the head of a whole message is the one that was sent
+pub sent-head : (s : Numbers) (c : Controller) (head h : Head) → sentMessage s c head h .head ≡ head
+unfolding sentMessage plain
+sent-head s c head (Reading label run raw) = refl
+sent-head s c head (Query sender label mask) = refl
+sent-head s c head (Reply sender label mask) = refl
+sent-head s c head (Advert sender state) = refl
+sent-head s c head (Update sender state) = refl
+sent-head s c head (Vote sender label digest) = refl
+sent-head s c head (Setpoints sender label digest) = refl
+sent-head s c head (Due label) = refl
+sent-head s c head (CollectingEnds label) = refl
+sent-head s c head (VotingEnds label) = refl
+sent-head s c head (Floor label) = refl
+sent-head s c head (Start own low) = refl
+sent-head s c head (Refused number) = refl
