@@ -1,0 +1,73 @@
+-- HOW A HOST KEEPS THE PREMISE ON FLOORS: it stores before it confirms, and restarts a number at the highest floor that it has stored for it. Assumes nothing beyond the premises.
+use Prim.Native.Nat.{ℕ, _≤_}
+use native.Mathlib.Omega.{arith}
+use mathlib.Core.Path.{_≡_, refl, sym, ap, subst}
+use mathlib.Core.List.{List, [], _∷_, _++_, List·Memᴰ, List·Memᴰ·head, List·Memᴰ·tail, List·Memᴰ·cases-cons, List·Memᴰ·not-nil}
+use mathlib.Core.Logic.{_⊎_, inl, inr, ⊎-elim}
+use mathlib.Core.Option.{Option, none, some}
+use Rattle.units.specs.declared.labels.RoundLabel.{RoundLabel}
+use Rattle.units.specs.declared.settings.Numbers.{Numbers}
+use Rattle.message.specs.declared.head.Head.{Head}
+use Rattle.message.specs.declared.head.Head.the-variants.{Reading, Query, Reply, Advert, Update, Vote, Setpoints, Due, CollectingEnds, VotingEnds, Floor, Start, Refused}
+use Rattle.message.specs.declared.value.Message.{Message}
+use Rattle.message.specs.Message.{plain}
+use Rattle.controller.specs.declared.state.Controller.{Controller}
+use Rattle.group.specs.World.{Mark, mark, World, Event, hand, store, crash, confirms, handed, after}
+use Rattle.group.specs.Premises.{Meters, Kept, On, here, next, Run}
+
+-- what is confirmed is stored
+abbrev Stored : World → Type 0
+Stored w = (x : Mark) → List·Memᴰ x (w .confirmed) → List·Memᴰ x (w .stored)
+
+either {ℓ} : {X : Type ℓ} (x : X) (l m : List X) → List·Memᴰ x (l ++ m) → List·Memᴰ x l ⊎ List·Memᴰ x m
+either x [] m h = inr h
+either x (y ∷ l) m h = elim (List·Memᴰ·cases-cons h) [ inl e ↦ inl (List·Memᴰ·head e) | inr n ↦ ⊎-elim (λ k. inl (List·Memᴰ·tail k)) (λ k. inr k) (either x l m n) ]
+
+-- F alone confirms
+by-floor : (i : ℕ) (x : Mark) (h : Head) → List·Memᴰ x (confirms i h) → (label : RoundLabel) × (h ≡ Floor label) × (x ≡ mark i label)
+by-floor i x (Floor label) m = elim (List·Memᴰ·cases-cons m) [ inl e ↦ (label, refl, e) | inr n ↦ absurd (List·Memᴰ·not-nil n) ]
+by-floor i x (Reading label run raw) m = absurd (List·Memᴰ·not-nil m)
+by-floor i x (Query sender label mask) m = absurd (List·Memᴰ·not-nil m)
+by-floor i x (Reply sender label mask) m = absurd (List·Memᴰ·not-nil m)
+by-floor i x (Advert sender state) m = absurd (List·Memᴰ·not-nil m)
+by-floor i x (Update sender state) m = absurd (List·Memᴰ·not-nil m)
+by-floor i x (Vote sender label digest) m = absurd (List·Memᴰ·not-nil m)
+by-floor i x (Setpoints sender label digest) m = absurd (List·Memᴰ·not-nil m)
+by-floor i x (Due label) m = absurd (List·Memᴰ·not-nil m)
+by-floor i x (CollectingEnds label) m = absurd (List·Memᴰ·not-nil m)
+by-floor i x (VotingEnds label) m = absurd (List·Memᴰ·not-nil m)
+by-floor i x (Start own low) m = absurd (List·Memᴰ·not-nil m)
+by-floor i x (Refused number) m = absurd (List·Memᴰ·not-nil m)
+
+module _ (s : Numbers) (meters : Meters) where
+  stored-handed : (w : World) → Stored w → (i : ℕ) (a : Message) → Kept meters w i a → (u : Option Controller) → Stored (handed s w i a u)
+  stored-handed w f i a k none = f
+  stored-handed w f i a k (some c) = λ x m.
+      ⊎-elim (λ p. let q = by-floor i x (a .head) p in subst (λ (y : Mark). List·Memᴰ y (w .stored)) (sym (q .2)) (k .stored-first (q .0) (q .1))) (λ p. f x p)
+      (either x (confirms i (a .head)) (w .confirmed) m)
+
+  stored-after : (w : World) → Stored w → (e : Event) → On (Kept meters) w e → Stored (after s w e)
+  stored-after w f (hand i a) k = stored-handed w f i a k (w .up i)
+  stored-after w f (store i label) k = λ x m. List·Memᴰ·tail (f x m)
+  stored-after w f (crash i) k = f
+
+  -- every floor ever confirmed to a number was stored for it
+  pub confirmed-stored : {w : World} → Run s (Kept meters) w → (i : ℕ) (label : RoundLabel) → List·Memᴰ (mark i label) (w .confirmed) → List·Memᴰ (mark i label) (w .stored)
+  confirmed-stored run i label m = all run (mark i label) m
+    where
+      all : {w : World} → Run s (Kept meters) w → Stored w
+      all here = λ x m. absurd (List·Memᴰ·not-nil m)
+      all (next {v} run e k) = stored-after v (all run) e k
+
+  -- so a restart at least at every floor that is stored for the number keeps the premises
+  pub restart-kept : {w : World} → Run s (Kept meters) w → (i : ℕ) (low : RoundLabel) → ((label : RoundLabel) → List·Memᴰ (mark i label) (w .stored) → label .0 ≤ low .0)
+      → Kept meters w i (plain (Start i low))
+  unfolding plain
+  restart-kept run i low f =
+      record {
+        one-reading = λ l n r q. let z : _≡_ {A = ℕ} 0 1 = cc in absurd (omega arith);
+        not-made-up = λ t. absurd t;
+        own-number = λ o l q. cc;
+        stored-first = λ l q. let z : _≡_ {A = ℕ} 0 1 = cc in absurd (omega arith);
+        highest-floor = λ o l q label m. let z : low ≡ l = cc in omega (arith, ap (λ (k : RoundLabel). k .0) z, f label (confirmed-stored run i label m));
+      }

@@ -1,0 +1,132 @@
+-- Which controller a number has after an event, and which messages are new. Assumes nothing.
+use Prim.Native.Nat.{ℕ}
+use native.Mathlib.Omega.{arith}
+use mathlib.Core.Path.{_≡_, refl, sym, ap, subst, _∙_}
+use mathlib.Core.List.{List, List·Memᴰ, List·Memᴰ·head, List·Memᴰ·tail, List·Memᴰ·cases-cons}
+use mathlib.Core.Logic.{_⊎_, inl, inr, ⊎-elim}
+use mathlib.Core.Option.{Option, none, some}
+use lib.Dec.{eqb}
+use borrow.Author.Tests.{eqb-true, eqb-false}
+use Rattle.units.specs.declared.labels.RoundLabel.{RoundLabel}
+use Rattle.units.specs.declared.refusal.Verdict.{Verdict}
+use Rattle.units.specs.declared.refusal.Verdict.the-variants.{Taken, Refused as Denied}
+use Rattle.units.specs.declared.settings.Numbers.{Numbers}
+use Rattle.vote.specs.declared.digest.Digest.{Digest}
+use Rattle.message.specs.declared.head.Head.{Head}
+use Rattle.message.specs.declared.head.Head.the-variants.{Reading, Query, Reply, Advert, Update, Vote, Setpoints, Due, CollectingEnds, VotingEnds, Floor, Start, Refused}
+use Rattle.message.specs.declared.value.Message.{Message}
+use Rattle.plan.specs.declared.planned.Sent.{Sent}
+use Rattle.plan.specs.declared.planned.Sent.the-variants.{Nothing, One}
+use Rattle.controller.specs.declared.state.Controller.{Controller}
+use Rattle.controller.specs.declared.step.Answer.{Answer}
+use Rattle.controller.specs.Sent.{sentMessage}
+use Rattle.controller.specs.Start.{started}
+use Rattle.controller_laws.specs.Changes.{NoStart}
+use Rattle.controller_laws.specs.Sendings.{IsSent}
+use Rattle.controller_laws.proofs.Outcomes.{sent-head}
+use Rattle.controller_laws.proofs.Ways.{on-pick}
+use Rattle.group.specs.World.{put, sending, sentBy, begun, rising}
+use Rattle.group.specs.Premises.{Released}
+
+-- ---- the controllers
+pub no-controller : {A : Type 0} {c : Controller} → none ≡ some c → A
+no-controller e = let z : _≡_ {A = ℕ} 0 1 = cc in absurd (omega arith)
+
+pub same-controller : {c n : Controller} → some c ≡ some n → c ≡ n
+same-controller e = cc
+
+-- a number's controller is the one that was put there, or it has another number
+pub put-cases : (up : ℕ → Option Controller) (i : ℕ) (o : Option Controller) (j : ℕ) (c : Controller) → put up i o j ≡ some c → ((j ≡ i) × (o ≡ some c)) ⊎ ((j ≡ i → ⊥) × (up j ≡ some c))
+unfolding put
+put-cases up i o j c =
+    on-pick (λ (x : Option Controller). x ≡ some c → ((j ≡ i) × (o ≡ some c)) ⊎ ((j ≡ i → ⊥) × (up j ≡ some c))) (eqb j i)
+    (λ e h. inl (eqb-true j i e, h)) (λ e h. inr (eqb-false j i e, h))
+
+-- a number that was down is up by a B alone, and by a start that was taken
+pub record Risen (s : Numbers) (h : Head) (n : Controller) : Type 0 where
+  pub own : ℕ
+  pub low : RoundLabel
+  pub by : h ≡ Start own low
+  pub taken : started s own low .verdict ≡ Taken
+  pub is : n ≡ started s own low .controller
+
+pub risen-by : (s : Numbers) (h : Head) (n : Controller) → rising s h ≡ some n → Risen s h n
+risen-by s (Start own low) n e = from (started s own low .verdict) refl e
+  where
+    from : (v : Verdict) → started s own low .verdict ≡ v → begun (started s own low .controller) v ≡ some n → Risen s (Start own low) n
+    from Taken q e = record { own = own; low = low; by = refl; taken = q; is = sym (same-controller e) }
+    from (Denied why) q e = no-controller e
+risen-by s (Reading label run raw) n e = no-controller e
+risen-by s (Query sender label mask) n e = no-controller e
+risen-by s (Reply sender label mask) n e = no-controller e
+risen-by s (Advert sender state) n e = no-controller e
+risen-by s (Update sender state) n e = no-controller e
+risen-by s (Vote sender label digest) n e = no-controller e
+risen-by s (Setpoints sender label digest) n e = no-controller e
+risen-by s (Due label) n e = no-controller e
+risen-by s (CollectingEnds label) n e = no-controller e
+risen-by s (VotingEnds label) n e = no-controller e
+risen-by s (Floor label) n e = no-controller e
+risen-by s (Refused number) n e = no-controller e
+
+-- ---- the messages
+-- a message that a step has sent
+pub record Fresh (s : Numbers) (r : Answer) (x : Message) : Type 0 where
+  pub head : Head
+  pub out : IsSent r head
+  pub whole : x ≡ sentMessage s (r .next) head head
+
+module _ (s : Numbers) (r : Answer) (x : Message) (old : List Message) where
+  in-sending : (t : Sent) → ((head : Head) → t ≡ One head → IsSent r head) → List·Memᴰ x (sending s (r .next) t old) → Fresh s r x ⊎ List·Memᴰ x old
+  in-sending Nothing f m = inr m
+  in-sending (One head) f m = elim (List·Memᴰ·cases-cons m) [ inl e ↦ inl (record { head = head; out = f head refl; whole = e }) | inr n ↦ inr n ]
+
+  past-sending : (t : Sent) → List·Memᴰ x old → List·Memᴰ x (sending s (r .next) t old)
+  past-sending Nothing m = m
+  past-sending (One head) m = List·Memᴰ·tail m
+
+module _ (s : Numbers) (r : Answer) (old : List Message) where
+  -- a message is one that this step sent, or an older one
+  pub new-or-old : (x : Message) → List·Memᴰ x (sentBy s r old) → Fresh s r x ⊎ List·Memᴰ x old
+  new-or-old x m =
+      ⊎-elim (λ f. inl f) (λ n. in-sending s r x old (r .first) (λ head e. inl e) n)
+      (in-sending s r x (sending s (r .next) (r .first) old) (r .second) (λ head e. inr e) m)
+
+  -- what was sent stays sent
+  pub still-sent : (x : Message) → List·Memᴰ x old → List·Memᴰ x (sentBy s r old)
+  still-sent x m = past-sending s r x (sending s (r .next) (r .first) old) (r .second) (past-sending s r x old (r .first) m)
+
+  -- what a step sends is there
+  pub now-sent : (head : Head) → IsSent r head → List·Memᴰ (sentMessage s (r .next) head head) (sentBy s r old)
+  now-sent head (inl e) = past-sending s r _ (sending s (r .next) (r .first) old) (r .second) (first (r .first) e)
+    where
+      first : (t : Sent) → t ≡ One head → List·Memᴰ (sentMessage s (r .next) head head) (sending s (r .next) t old)
+      first t e = subst (λ (u : Sent). List·Memᴰ (sentMessage s (r .next) head head) (sending s (r .next) u old)) (sym e) (List·Memᴰ·head refl)
+  now-sent head (inr e) =
+      subst (λ (u : Sent). List·Memᴰ (sentMessage s (r .next) head head) (sending s (r .next) u (sending s (r .next) (r .first) old))) (sym e) (List·Memᴰ·head refl)
+
+  -- the head of a fresh message is the one sent
+  pub fresh-head : (x : Message) (f : Fresh s r x) → x .head ≡ f .head
+  fresh-head x f = ap (λ (y : Message). y .head) (f .whole) ∙ sent-head s (r .next) (f .head) (f .head)
+
+  -- a vote released is an older one, or goes out by this step
+  pub released-by : (i : ℕ) (label : RoundLabel) (d : Digest) → Released (sentBy s r old) i label d → IsSent r (Vote i label d) ⊎ Released old i label d
+  released-by i label d p =
+      ⊎-elim (λ f. inl (subst (IsSent r) (sym (fresh-head (p .line) f) ∙ p .said) (f .out))) (λ m. inr (record { line = p .line; among = m; said = p .said }))
+      (new-or-old (p .line) (p .among))
+
+-- ---- B or another message
+pub start-or-not : (h : Head) → ((own : ℕ) × (floor : RoundLabel) × (h ≡ Start own floor)) ⊎ NoStart h
+start-or-not (Reading label run raw) = inr (λ o f e. let z : _≡_ {A = ℕ} 0 1 = cc in absurd (omega arith))
+start-or-not (Query sender label mask) = inr (λ o f e. let z : _≡_ {A = ℕ} 0 1 = cc in absurd (omega arith))
+start-or-not (Reply sender label mask) = inr (λ o f e. let z : _≡_ {A = ℕ} 0 1 = cc in absurd (omega arith))
+start-or-not (Advert sender state) = inr (λ o f e. let z : _≡_ {A = ℕ} 0 1 = cc in absurd (omega arith))
+start-or-not (Update sender state) = inr (λ o f e. let z : _≡_ {A = ℕ} 0 1 = cc in absurd (omega arith))
+start-or-not (Vote sender label digest) = inr (λ o f e. let z : _≡_ {A = ℕ} 0 1 = cc in absurd (omega arith))
+start-or-not (Setpoints sender label digest) = inr (λ o f e. let z : _≡_ {A = ℕ} 0 1 = cc in absurd (omega arith))
+start-or-not (Due label) = inr (λ o f e. let z : _≡_ {A = ℕ} 0 1 = cc in absurd (omega arith))
+start-or-not (CollectingEnds label) = inr (λ o f e. let z : _≡_ {A = ℕ} 0 1 = cc in absurd (omega arith))
+start-or-not (VotingEnds label) = inr (λ o f e. let z : _≡_ {A = ℕ} 0 1 = cc in absurd (omega arith))
+start-or-not (Floor label) = inr (λ o f e. let z : _≡_ {A = ℕ} 0 1 = cc in absurd (omega arith))
+start-or-not (Start own floor) = inl (own, floor, refl)
+start-or-not (Refused number) = inr (λ o f e. let z : _≡_ {A = ℕ} 0 1 = cc in absurd (omega arith))

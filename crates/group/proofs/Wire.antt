@@ -1,0 +1,174 @@
+-- DEMAND 3 ON THE WIRE: a run over lines is a run over messages, since what is written is read back as it was. Assumes nothing beyond the premises.
+use Prim.Native.Nat.{ℕ}
+use native.Mathlib.Omega.{arith}
+use mathlib.Core.Path.{_≡_, refl, sym, ap, subst, _∙_}
+use mathlib.Core.List.{List, [], _∷_, map, List·Memᴰ, List·Memᴰ·head, List·Memᴰ·tail, List·Memᴰ·cases-cons, List·Memᴰ·not-nil}
+use mathlib.Core.Logic.{inl, inr}
+use mathlib.Core.Option.{Option, none, some}
+use Rattle.units.specs.declared.labels.RoundLabel.{RoundLabel}
+use Rattle.units.specs.declared.refusal.Verdict.{Verdict}
+use Rattle.units.specs.declared.refusal.Verdict.the-variants.{Taken, Refused as Denied}
+use Rattle.units.specs.declared.settings.Numbers.{Numbers}
+use Rattle.vote.specs.declared.digest.Digest.{Digest}
+use Rattle.message.specs.declared.head.Head.{Head}
+use Rattle.message.specs.declared.head.Head.the-variants.{Setpoints, Refused}
+use Rattle.message.specs.declared.value.Message.{Message}
+use Rattle.message.specs.Message.{plain}
+use Rattle.lines.specs.declared.read.Line.{Line}
+use Rattle.lines.specs.Reading.{readLine}
+use Rattle.lines.specs.Writing.{spellLine}
+use Rattle.lines.proofs.RoundTrip.{read-write}
+use Rattle.lines.proofs.Saying.{not-x}
+use Rattle.lines.proofs.Wire.{taken}
+use Rattle.plan.specs.declared.planned.Sent.{Sent}
+use Rattle.plan.specs.declared.planned.Sent.the-variants.{Nothing, One}
+use Rattle.controller.specs.declared.state.Controller.{Controller}
+use Rattle.controller.specs.declared.step.Answer.{Answer}
+use Rattle.controller.specs.Sent.{withTargets, sentMessage}
+use Rattle.controller.specs.Step.{stepped}
+use Rattle.controller_laws.specs.Outcomes.{SentBy}
+use Rattle.controller_laws.specs.Outcomes.SentBy.{query, reply, advert, update, floor, vote, setpoints}
+use Rattle.controller_laws.proofs.Outcomes.{sent-by}
+use Rattle.group.specs.World.{World, empty, sending, sentBy, handed, after}
+use Rattle.group.specs.World as Messages
+use Rattle.group.specs.Premises.{Meters, Kept, Onward, Run}
+use Rattle.group.specs.Premises as Runs
+use Rattle.group.specs.Demand.{Right}
+use Rattle.group.specs.Wire.{Wire, silent, Happening, hand, store, crash, spelling, spelledBy, takes, hears, afterwards, KeptLine, OnLine, OnwardLines, here, next, readAs, readAll, from, Demand3Lines}
+use Rattle.group.proofs.Later.{continued, every-sent}
+use Rattle.group.proofs.Named.{sent-in-range}
+use Rattle.group.proofs.Sent.{fresh-head}
+use Rattle.group.proofs.Theorem.{demand3}
+use Rattle.group.proofs.Weaker.{weaker}
+
+-- ---- what is sent
+in-map {ℓ ℓ′} : {X : Type ℓ} {Y : Type ℓ′} (f : X → Y) (l : List X) (y : Y) → List·Memᴰ y (map f l) → (x : X) × List·Memᴰ x l × (y ≡ f x)
+in-map f [] y m = absurd (List·Memᴰ·not-nil m)
+in-map f (x ∷ l) y m = elim (List·Memᴰ·cases-cons m) [ inl e ↦ (x, List·Memᴰ·head refl, e) | inr n ↦ (let q = in-map f l y n in (q .0, List·Memᴰ·tail (q .1), q .2)) ]
+
+no-x : {s : Numbers} {c : Controller} {h : Head} {n : Controller} {k : Head} → SentBy s c h n k → (number : ℕ) → k ≡ Refused number → ⊥
+no-x (query e) number q = let z : _≡_ {A = ℕ} 0 1 = cc in omega arith
+no-x (reply mask e) number q = let z : _≡_ {A = ℕ} 0 1 = cc in omega arith
+no-x (advert e) number q = let z : _≡_ {A = ℕ} 0 1 = cc in omega arith
+no-x (update e) number q = let z : _≡_ {A = ℕ} 0 1 = cc in omega arith
+no-x (floor e) number q = let z : _≡_ {A = ℕ} 0 1 = cc in omega arith
+no-x (vote e p) number q = let z : _≡_ {A = ℕ} 0 1 = cc in omega arith
+no-x (setpoints t) number q = let z : _≡_ {A = ℕ} 0 1 = cc in omega arith
+
+-- S has its targets and nothing else
+abbrev Bare : Message → Type 0
+Bare x = (i : ℕ) (label : RoundLabel) (d : Digest) → x .head ≡ Setpoints i label d → x ≡ withTargets (Setpoints i label d) (x .targets)
+
+bare-sent : (s : Numbers) (n : Controller) (h k : Head) → h ≡ k → (i : ℕ) (label : RoundLabel) (d : Digest) → k ≡ Setpoints i label d
+    → sentMessage s n h h ≡ withTargets (Setpoints i label d) (sentMessage s n h h .targets)
+unfolding sentMessage
+bare-sent s n h k p i label d q = subst (λ (x : Head). sentMessage s n x x ≡ withTargets (Setpoints i label d) (sentMessage s n x x .targets)) (sym (p ∙ q)) refl
+
+module _ (s : Numbers) (meters : Meters) where
+  -- what is written is read back
+  pub read-back : {w : World} → Run s (Kept meters) w → (x : Message) → List·Memᴰ x (w .sent) → readLine (s .group) (spellLine (s .group) x) ≡ taken x
+  read-back run x m =
+      read-write (s .group) x (sent-in-range s meters (weaker s meters run) x m)
+      (not-x (x .head) (every-sent s (λ y. (number : ℕ) → y .head ≡ Refused number → ⊥) (λ c a y f number e. no-x (sent-by s c a (f .head) (f .out)) number (sym (fresh-head s (stepped s c a) [] y f) ∙ e)) run x m))
+
+  sent-bare : {w : World} → Run s (Kept meters) w → (x : Message) → List·Memᴰ x (w .sent) → Bare x
+  sent-bare run =
+      every-sent s Bare
+      (λ c a y f i label d e. subst (λ (z : Message). z ≡ withTargets (Setpoints i label d) (z .targets)) (sym (f .whole))
+      (bare-sent s (stepped s c a .next) (f .head) (y .head) (sym (fresh-head s (stepped s c a) [] y f)) i label d e)) run
+
+  -- ---- a world of messages, with its lines
+  abbrev pub wireOf : World → Wire
+  wireOf w = record { up = w .up; sent = map (spellLine (s .group)) (w .sent); stored = w .stored; confirmed = w .confirmed }
+
+  spelled-one : (c : Controller) (t : Sent) (old : List Message) → spelling s c t (map (spellLine (s .group)) old) ≡ map (spellLine (s .group)) (sending s c t old)
+  spelled-one c Nothing old = refl
+  spelled-one c (One head) old = refl
+
+  spelled : (r : Answer) (old : List Message) → spelledBy s r (map (spellLine (s .group)) old) ≡ map (spellLine (s .group)) (sentBy s r old)
+  spelled r old = ap (spelling s (r .next) (r .second)) (spelled-one (r .next) (r .first) old) ∙ spelled-one (r .next) (r .second) (sending s (r .next) (r .first) old)
+
+  pub takes-as : (w : World) (i : ℕ) (a : Message) (u : Option Controller) → takes s (wireOf w) i a u ≡ wireOf (handed s w i a u)
+  takes-as w i a none = refl
+  takes-as w i a (some c) = λ t.
+      let v = handed s w i a (some c) in record { up = v .up; sent = spelled (stepped s c a) (w .sent) t; stored = v .stored; confirmed = v .confirmed }
+
+  -- a line that was sent is read as the message that was sent
+  genuine : {w : World} → Run s (Kept meters) w → (line : List ℕ) → List·Memᴰ line (wireOf w .sent) → List·Memᴰ (readAs s line) (w .sent)
+  genuine {w} run line m =
+      let q = in-map (spellLine (s .group)) (w .sent) line m in
+      let e : readAs s line ≡ q .0 = ap (λ (l : List ℕ). readAs s l) (q .2) ∙ ap (λ (l : Line). l .message) (read-back run (q .0) (q .1)) in
+      subst (λ (x : Message). List·Memᴰ x (w .sent)) (sym e) (q .1)
+
+  kept : {w : World} → Run s (Kept meters) w → (i : ℕ) (line : List ℕ) → KeptLine meters (wireOf w) i line (readAs s line) → Kept meters w i (readAs s line)
+  kept run i line k =
+      record {
+        one-reading = k .one-reading;
+        own-number = k .own-number;
+        not-made-up = λ t. genuine run line (k .not-made-up t);
+        stored-first = k .stored-first;
+        highest-floor = k .highest-floor;
+      }
+
+  -- ---- what happens on the wire happens in the world of messages
+  abbrev Led : World → Wire → Type 0
+  Led w u = (v : World) × Onward s (Kept meters) w v × (u ≡ wireOf v)
+
+  heard : (w : World) → Run s (Kept meters) w → (i : ℕ) (line : List ℕ) → OnLine s meters (wireOf w) (hand i line) → (v : Verdict) → readLine (s .group) line .verdict ≡ v
+      → Led w (hears s (wireOf w) i (readAs s line) v)
+  heard w run i line k Taken e = (after s w (Messages.hand i (readAs s line)), Runs.next Runs.here (Messages.hand i (readAs s line)) (kept run i line (k e)), takes-as w i (readAs s line) (w .up i))
+  heard w run i line k (Denied why) e = (w, Runs.here, refl)
+
+  happens : (w : World) → Run s (Kept meters) w → (e : Happening) → OnLine s meters (wireOf w) e → Led w (afterwards s (wireOf w) e)
+  happens w run (hand i line) k = heard w run i line k (readLine (s .group) line .verdict) refl
+  happens w run (store i label) k = (after s w (Messages.store i label), Runs.next Runs.here (Messages.store i label) tt, refl)
+  happens w run (crash i) k = (after s w (Messages.crash i), Runs.next Runs.here (Messages.crash i) tt, refl)
+
+  follows : {v u : Wire} (w : World) → Run s (Kept meters) w → v ≡ wireOf w → OnwardLines s meters v u → Led w u
+  follows w run e here = (w, Runs.here, e)
+  follows w run e (next on x k) =
+      let a = follows w run e on in
+      let b = happens (a .0) (continued run (a .1)) x (subst (λ (y : Wire). OnLine s meters y x) (a .2) k) in
+      (b .0, continued (a .1) (b .1), ap (λ (y : Wire). afterwards s y x) (a .2) ∙ b .2)
+
+  -- ---- the lines are read as the messages
+  read-all : (sent : List Message) → ((x : Message) → List·Memᴰ x sent → readLine (s .group) (spellLine (s .group) x) ≡ taken x) → readAll s (map (spellLine (s .group)) sent) ≡ sent
+  read-all [] f = refl
+  read-all (x ∷ sent) f = λ t. ap (λ (l : Line). l .message) (f x (List·Memᴰ·head refl)) t ∷ read-all sent (λ y m. f y (List·Memᴰ·tail m)) t
+
+  -- two S of one label that agree are the same but for the sender
+  same-but : (a b : Message) (i j : ℕ) (label : RoundLabel) (d e : Digest) → a ≡ withTargets (Setpoints i label d) (a .targets) → b ≡ withTargets (Setpoints j label e) (b .targets) → d ≡ e → a .targets ≡ b .targets
+      → b ≡ from j label d a
+  unfolding plain
+  same-but a b i j label d e p q r t =
+      q ∙ (λ k. withTargets (Setpoints j label (sym r k)) (sym t k)) ∙ sym (ap (from j label d) p)
+
+  module _ (w v : World) (run : Run s (Kept meters) w) (on : Onward s (Kept meters) w v) where
+    all : Run s (Kept meters) v
+    all = continued run on
+
+    lines-right : (x : List ℕ) → List·Memᴰ x (wireOf w .sent) → (i : ℕ) (label : RoundLabel) (d : Digest) → readAs s x .head ≡ Setpoints i label d
+        → Right s meters (readAll s (wireOf v .sent)) label d (readAs s x .targets)
+    lines-right x m i label d e =
+        subst (λ (sent : List Message). Right s meters sent label d (readAs s x .targets)) (sym (read-all (v .sent) (read-back all)))
+        (demand3 s meters run on .right (readAs s x) (genuine run x m) i label d e)
+
+    lines-same : (x y : List ℕ) → List·Memᴰ x (wireOf w .sent) → List·Memᴰ y (wireOf v .sent) → (i j : ℕ) (label : RoundLabel) (d e : Digest) → readAs s x .head ≡ Setpoints i label d
+        → readAs s y .head ≡ Setpoints j label e → y ≡ spellLine (s .group) (from j label d (readAs s x))
+    lines-same x y m n i j label d e p q =
+        let a = genuine run x m in
+        let b = genuine all y n in
+        let z = demand3 s meters run on .same (readAs s x) (readAs s y) a b i j label d e p q in
+        let g = in-map (spellLine (s .group)) (v .sent) y n in
+        let h : g .0 ≡ readAs s y = sym (ap (λ (l : List ℕ). readAs s l) (g .2) ∙ ap (λ (l : Line). l .message) (read-back all (g .0) (g .1))) in
+        g .2 ∙ ap (spellLine (s .group)) (h ∙ same-but (readAs s x) (readAs s y) i j label d e (sent-bare run (readAs s x) a i label d p) (sent-bare all (readAs s y) b j label e q) (z .0) (z .1))
+
+    lines-demand : Demand3Lines s meters (wireOf w) (wireOf v)
+    lines-demand = record { right = lines-right; same = lines-same }
+
+  -- DEMAND 3 OF THE BYTES: every run over lines that keeps the premises, to w, and however it goes on, to v
+  pub demand3-lines : {w v : Wire} → OnwardLines s meters silent w → OnwardLines s meters w v → Demand3Lines s meters w v
+  demand3-lines {w} {v} run on =
+      let a = follows empty Runs.here refl run in
+      let b = follows (a .0) (a .1) (a .2) on in
+      subst (λ (x : Wire). Demand3Lines s meters x v) (sym (a .2)) (subst (Demand3Lines s meters (wireOf (a .0))) (sym (b .2)) (lines-demand (a .0) (b .0) (a .1) (b .1)))

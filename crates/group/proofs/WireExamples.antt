@@ -1,0 +1,79 @@
+-- The premises on the wire can be met too: a script that passes the test, and whose messages can be written, is a run over lines. Assumes nothing.
+use Prim.Native.Nat.{ℕ, _-_}
+use native.Mathlib.Omega.{arith}
+use mathlib.Core.Path.{_≡_, sym, ap, subst, _∙_}
+use mathlib.Core.Bool.{true}
+use mathlib.Core.List.{List, [], _∷_, map, List·Memᴰ, List·Memᴰ·head, List·Memᴰ·tail, List·Memᴰ·cases-cons, List·Memᴰ·not-nil}
+use mathlib.Core.Logic.{inl, inr}
+use lib.Dec.{ltb}
+use lib.ListN.{length}
+use borrow.Author.Tests.{ltb-true}
+use Rattle.units.specs.declared.settings.Numbers.{Numbers}
+use Rattle.units.proofs.Every.{and-left, and-right}
+use Rattle.message.specs.declared.head.Head.{Head}
+use Rattle.message.specs.declared.head.Head.the-variants.{Refused}
+use Rattle.message.specs.declared.value.Message.{Message}
+use Rattle.message.specs.Message.{plain, messageFits}
+use Rattle.lines.specs.declared.read.Line.{Line}
+use Rattle.lines.specs.Reading.{readLine}
+use Rattle.lines.specs.Writing.{spellLine}
+use Rattle.lines.proofs.RoundTrip.{read-write}
+use Rattle.lines.proofs.Saying.{not-x}
+use Rattle.lines.proofs.Wire.{taken}
+use Rattle.group.specs.World.{World, after}
+use Rattle.group.specs.World as Messages
+use Rattle.group.specs.Premises.{Meters, Kept, Run}
+use Rattle.group.specs.Premises as Runs
+use Rattle.group.specs.Wire.{silent, hand, store, crash, hears, KeptLine, OnwardLines, next, readAs}
+use Rattle.group.specs.Scripts.{Act, give, pass, keep, fall, nth, eventOf, played, fairly, fair, allFair, writable, allWritable}
+use Rattle.group.proofs.Examples.{at-place, not-true, fair-keeps}
+use Rattle.group.proofs.Wire.{read-back, wireOf, takes-as}
+
+mapped {ℓ ℓ′} : {X : Type ℓ} {Y : Type ℓ′} (f : X → Y) (l : List X) (x : X) → List·Memᴰ x l → List·Memᴰ (f x) (map f l)
+mapped f [] x m = absurd (List·Memᴰ·not-nil m)
+mapped f (y ∷ l) x m = elim (List·Memᴰ·cases-cons m) [ inl e ↦ List·Memᴰ·head (ap f e) | inr n ↦ List·Memᴰ·tail (mapped f l x n) ]
+
+module _ (s : Numbers) (meters : Meters) where
+  -- a message that is read back from its line is handed as that line
+  module _ (w : World) (i : ℕ) (a : Message) (k : Kept meters w i a) (e : readLine (s .group) (spellLine (s .group) a) ≡ taken a) where
+    kept-line : KeptLine meters (wireOf s meters w) i (spellLine (s .group) a) (readAs s (spellLine (s .group) a))
+    kept-line =
+        subst (KeptLine meters (wireOf s meters w) i (spellLine (s .group) a)) (sym (ap (λ (l : Line). l .message) e))
+        (record {
+          one-reading = k .one-reading;
+          own-number = k .own-number;
+          not-made-up = λ t. mapped (spellLine (s .group)) (w .sent) a (k .not-made-up t);
+          stored-first = k .stored-first;
+          highest-floor = k .highest-floor;
+        })
+
+    spelled-hand : OnwardLines s meters silent (wireOf s meters w) → OnwardLines s meters silent (wireOf s meters (after s w (Messages.hand i a)))
+    spelled-hand on =
+        subst (OnwardLines s meters silent)
+        (ap (λ (l : Line). hears s (wireOf s meters w) i (l .message) (l .verdict)) e ∙ takes-as s meters w i a (w .up i))
+        (next on (hand i (spellLine (s .group) a)) (λ _. kept-line))
+
+  -- what is given can be read back, where it can be written
+  given-back : (w : World) (i : ℕ) (head : Head) → fairly meters w i head ≡ true → messageFits (s .group) (plain head) ≡ true
+      → readLine (s .group) (spellLine (s .group) (plain head)) ≡ taken (plain head)
+  unfolding plain fairly
+  given-back w i head f m = read-write (s .group) (plain head) m (not-x head (λ number q. not-true (sym (ap (fairly meters w i) q) ∙ f)))
+
+  act-line : (w : World) → Run s (Kept meters) w → (x : Act) → fair meters w x ≡ true → writable s x ≡ true → OnwardLines s meters silent (wireOf s meters w)
+      → OnwardLines s meters silent (wireOf s meters (after s w (eventOf w x)))
+  unfolding fair writable
+  act-line w run (give i head) f m on = spelled-hand w i (plain head) (fair-keeps meters w (give i head) f) (given-back w i head f m) on
+  act-line w run (pass i n) f m on =
+      spelled-hand w i (nth (w .sent) n) (fair-keeps meters w (pass i n) f)
+      (read-back s meters run (nth (w .sent) n)
+      (at-place (w .sent) (length (w .sent) - 1 - n) (plain (Refused 3)) (omega (arith, ltb-true n (length (w .sent)) (and-left (ltb n (length (w .sent))) _ f))))) on
+  act-line w run (keep i label) f m on = next on (store i label) tt
+  act-line w run (fall i) f m on = next on (crash i) tt
+
+  pub scripted-lines : (w : World) (script : List Act) → Run s (Kept meters) w → OnwardLines s meters silent (wireOf s meters w) → allFair s meters w script ≡ true → allWritable s script ≡ true
+      → OnwardLines s meters silent (wireOf s meters (played s w script))
+  unfolding played allFair allWritable
+  scripted-lines w [] run on f m = on
+  scripted-lines w (x ∷ more) run on f m =
+      scripted-lines (after s w (eventOf w x)) more (Runs.next run (eventOf w x) (fair-keeps meters w x (and-left (fair meters w x) _ f)))
+      (act-line w run x (and-left (fair meters w x) _ f) (and-left (writable s x) _ m) on) (and-right (fair meters w x) _ f) (and-right (writable s x) _ m)

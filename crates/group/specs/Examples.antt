@@ -1,0 +1,124 @@
+-- THE PREMISES CAN BE MET: document 01's session without its last line and with controller 1 sending its A; and three controllers of whom one crashes after its vote and restarts, with two labels issued.
+use Prim.Native.Nat.{ℕ}
+use mathlib.Core.List.{List, [], _∷_}
+use lib.Dec.{eqb}
+use lib.ListN.{replicate}
+use Rattle.units.specs.declared.labels.RoundLabel.{RoundLabel}
+use Rattle.units.specs.declared.labels.StateLabel.{StateLabel}
+use Rattle.units.specs.declared.settings.Numbers.{Numbers}
+use Rattle.units.specs.Pick.{pick}
+use Rattle.vote.specs.declared.digest.Digest.{Digest}
+use Rattle.message.specs.declared.head.Head.the-variants.{Reading, Query, Reply, Advert, Update, Vote, Setpoints, Due, CollectingEnds, Floor, Start}
+use Rattle.controller_laws.specs.Session.{Line, sends}
+use Rattle.group.specs.Premises.{Meters}
+use Rattle.group.specs.Scripts.{Act, give, pass, keep, fall}
+
+abbrev pub round : ℕ → RoundLabel
+round n = record { 0 = n }
+
+abbrev pub stateOf : ℕ → StateLabel
+stateOf n = record { 0 = n }
+
+-- both runs, from the state of a label
+abbrev pub bothRuns : ℕ → Digest
+bothRuns n = record { mask = 3; state = stateOf n }
+
+-- the meters of document 01's session, the same at every label
+unfoldable pub steady : Meters
+steady label run = pick (eqb run 0) 200000 199060
+
+-- the session. Controller 1 is in round 2, and so its C leads to Q and to the session's A
+unfoldable pub session : List Act
+session =
+    give 0 (Start 0 (round 0))
+    ∷ give 0 (Reading (round 1) 0 200000)
+    ∷ give 0 (Reading (round 1) 1 199060)
+    ∷ give 0 (CollectingEnds (round 1))
+    ∷ keep 0 (round 1)
+    ∷ give 0 (Floor (round 1))
+    ∷ give 1 (Start 1 (round 0))
+    ∷ give 1 (Reading (round 2) 0 200000)
+    ∷ give 1 (Due (round 2))
+    ∷ pass 0 4
+    ∷ []
+
+-- what is sent: F 1, D 0 1 0 0003, S 0 1 0 0003 with its targets; Q 1 2 0002, A 1 0; U 0 1 with its estimates
+unfoldable pub sessionSays : List Line
+sessionSays =
+    sends (Floor (round 1)) []
+    ∷ sends (Vote 0 (round 1) (bothRuns 0)) []
+    ∷ sends (Setpoints 0 (round 1) (bothRuns 0)) (0x40F2_4F80_0000_0000 ∷ 0x40D8_6A00_0000_0000 ∷ [])
+    ∷ sends (Query 1 (round 2) 2) []
+    ∷ sends (Advert 1 (stateOf 0)) []
+    ∷ sends (Update 0 (stateOf 1)) (0x40E8_8760_0000_0000 ∷ 0x4052_C000_0000_0000 ∷ 0x40E8_4CA0_0000_0000 ∷ 0x4052_C000_0000_0000 ∷ [])
+    ∷ []
+
+-- ---- one crashes and returns
+-- the same settings for a group of three; controller 2 never starts
+unfoldable pub three : Numbers
+three =
+    record {
+      group = record { g = 3; m = 2 };
+      q = 1;
+      r = 300;
+      p = 99;
+      factors = 10047 ∷ 10000 ∷ replicate 14 0;
+      weights = 3 ∷ 1 ∷ replicate 14 0;
+    }
+
+-- Round 1: controller 0 votes, crashes, and is restarted at its floor; its vote still counts, and it takes no reading of round 1 again (8).
+-- Controller 1 votes, gets the D of controller 0, and issues. Round 2: controller 0 asks; U brings it the state of label 1, and R a reading; both vote, and both issue
+unfoldable pub returning : List Act
+returning =
+    give 0 (Start 0 (round 0))
+    ∷ give 1 (Start 1 (round 0))
+    ∷ give 0 (Reading (round 1) 0 200000)
+    ∷ give 0 (Reading (round 1) 1 199060)
+    ∷ give 0 (CollectingEnds (round 1))
+    ∷ keep 0 (round 1)
+    ∷ give 0 (Floor (round 1))
+    ∷ fall 0
+    ∷ give 0 (Start 0 (round 1))
+    ∷ give 0 (Reading (round 1) 0 200000)
+    ∷ give 1 (Reading (round 1) 0 200000)
+    ∷ give 1 (Reading (round 1) 1 199060)
+    ∷ give 1 (CollectingEnds (round 1))
+    ∷ keep 1 (round 1)
+    ∷ give 1 (Floor (round 1))
+    ∷ pass 1 1
+    ∷ give 0 (Reading (round 2) 0 200000)
+    ∷ give 1 (Reading (round 2) 0 200000)
+    ∷ give 1 (Reading (round 2) 1 199060)
+    ∷ give 0 (Due (round 2))
+    ∷ pass 1 6
+    ∷ pass 0 7
+    ∷ pass 1 5
+    ∷ pass 0 8
+    ∷ give 0 (CollectingEnds (round 2))
+    ∷ keep 0 (round 2)
+    ∷ give 0 (Floor (round 2))
+    ∷ give 1 (CollectingEnds (round 2))
+    ∷ keep 1 (round 2)
+    ∷ give 1 (Floor (round 2))
+    ∷ pass 1 10
+    ∷ pass 0 12
+    ∷ []
+
+unfoldable pub returningSays : List Line
+returningSays =
+    sends (Floor (round 1)) []
+    ∷ sends (Vote 0 (round 1) (bothRuns 0)) []
+    ∷ sends (Floor (round 1)) []
+    ∷ sends (Vote 1 (round 1) (bothRuns 0)) []
+    ∷ sends (Setpoints 1 (round 1) (bothRuns 0)) (0x40F2_4F80_0000_0000 ∷ 0x40D8_6A00_0000_0000 ∷ [])
+    ∷ sends (Query 0 (round 2) 2) []
+    ∷ sends (Advert 0 (stateOf 0)) []
+    ∷ sends (Update 1 (stateOf 1)) (0x40E8_8760_0000_0000 ∷ 0x4052_C000_0000_0000 ∷ 0x40E8_4CA0_0000_0000 ∷ 0x4052_C000_0000_0000 ∷ [])
+    ∷ sends (Reply 1 (round 2) 2) []
+    ∷ sends (Floor (round 2)) []
+    ∷ sends (Vote 0 (round 2) (bothRuns 1)) []
+    ∷ sends (Floor (round 2)) []
+    ∷ sends (Vote 1 (round 2) (bothRuns 1)) []
+    ∷ sends (Setpoints 1 (round 2) (bothRuns 1)) (0x40FD_69EB_9310_5726 ∷ 0x40E3_9BF2_620A_E4C4 ∷ [])
+    ∷ sends (Setpoints 0 (round 2) (bothRuns 1)) (0x40FD_69EB_9310_5726 ∷ 0x40E3_9BF2_620A_E4C4 ∷ [])
+    ∷ []

@@ -1,0 +1,105 @@
+-- RUNS WRITTEN DOWN: a script of acts, the world that it leads to, and a test that each act keeps the premises as they are worded.
+use Prim.Native.Nat.{ℕ, _-_}
+use mathlib.Core.Bool.{Bool, true, false, _&&_, _||_}
+use mathlib.Core.List.{List, [], _∷_}
+use lib.Dec.{eqb, leb, ltb}
+use lib.ListN.{length, getD}
+use Rattle.units.specs.declared.labels.RoundLabel.{RoundLabel}
+use Rattle.units.specs.declared.settings.Numbers.{Numbers}
+use Rattle.message.specs.declared.head.Head.{Head}
+use Rattle.message.specs.declared.head.Head.the-variants.{Reading, Query, Reply, Advert, Update, Vote, Setpoints, Due, CollectingEnds, VotingEnds, Floor, Start, Refused}
+use Rattle.message.specs.declared.value.Message.{Message}
+use Rattle.message.specs.Message.{plain, messageFits}
+use Rattle.controller_laws.specs.Session.{Line, line}
+use Rattle.group.specs.World.{Mark, World, Event, hand, store, crash, after}
+use Rattle.group.specs.Premises.{Meters}
+
+-- M, C, E, V, F or B is given to a number; the n-th message that was ever sent, counted from 0, is passed to a number; a floor is stored; a controller falls
+pub data Act : Type 0 where
+  give : ℕ → Head → Act
+  pass : ℕ → ℕ → Act
+  keep : ℕ → RoundLabel → Act
+  fall : ℕ → Act
+
+abbrev pub nth : List Message → ℕ → Message
+nth sent n = getD sent (length sent - 1 - n) (plain (Refused 3))
+
+abbrev pub eventOf : World → Act → Event
+eventOf w (give i head) = hand i (plain head)
+eventOf w (pass i n) = hand i (nth (w .sent) n)
+eventOf w (keep i label) = store i label
+eventOf w (fall i) = crash i
+
+unfoldable pub played : Numbers → World → List Act → World
+played s w [] = w
+played s w (x ∷ more) = played s (after s w (eventOf w x)) more
+
+-- ---- the test
+unfoldable pub exchanged : Head → Bool
+exchanged (Query sender label mask) = true
+exchanged (Reply sender label mask) = true
+exchanged (Advert sender state) = true
+exchanged (Update sender state) = true
+exchanged (Vote sender label digest) = true
+exchanged (Setpoints sender label digest) = true
+exchanged (Reading label run raw) = false
+exchanged (Due label) = false
+exchanged (CollectingEnds label) = false
+exchanged (VotingEnds label) = false
+exchanged (Floor label) = false
+exchanged (Start own floor) = false
+exchanged (Refused number) = false
+
+-- the floor is among those of the number i
+unfoldable pub marked : ℕ → RoundLabel → List Mark → Bool
+marked i label [] = false
+marked i label (x ∷ more) = (eqb (x .who) i && eqb (x .floor .0) (label .0)) || marked i label more
+
+-- no floor of the number i is above this one
+unfoldable pub highest : ℕ → RoundLabel → List Mark → Bool
+highest i floor [] = true
+highest i floor (x ∷ more) = (ltb (x .who) i || ltb i (x .who) || leb (x .floor .0) (floor .0)) && highest i floor more
+
+unfoldable pub fairly : Meters → World → ℕ → Head → Bool
+fairly meters w i (Reading label run raw) = eqb raw (meters label run)
+fairly meters w i (Due label) = true
+fairly meters w i (CollectingEnds label) = true
+fairly meters w i (VotingEnds label) = true
+fairly meters w i (Floor label) = marked i label (w .stored)
+fairly meters w i (Start own floor) = eqb own i && highest i floor (w .confirmed)
+fairly meters w i (Query sender label mask) = false
+fairly meters w i (Reply sender label mask) = false
+fairly meters w i (Advert sender state) = false
+fairly meters w i (Update sender state) = false
+fairly meters w i (Vote sender label digest) = false
+fairly meters w i (Setpoints sender label digest) = false
+fairly meters w i (Refused number) = false
+
+unfoldable pub fair : Meters → World → Act → Bool
+fair meters w (give i head) = fairly meters w i head
+fair meters w (pass i n) = ltb n (length (w .sent)) && exchanged (nth (w .sent) n .head)
+fair meters w (keep i label) = true
+fair meters w (fall i) = true
+
+unfoldable pub allFair : Numbers → Meters → World → List Act → Bool
+allFair s meters w [] = true
+allFair s meters w (x ∷ more) = fair meters w x && allFair s meters (after s w (eventOf w x)) more
+
+-- every message that is given can be written as a line
+unfoldable pub writable : Numbers → Act → Bool
+writable s (give i head) = messageFits (s .group) (plain head)
+writable s (pass i n) = true
+writable s (keep i label) = true
+writable s (fall i) = true
+
+unfoldable pub allWritable : Numbers → List Act → Bool
+allWritable s [] = true
+allWritable s (x ∷ more) = writable s x && allWritable s more
+
+-- all that was sent, the oldest first, with the bits of its floats
+unfoldable pub inOrder : Numbers → List Message → List Line → List Line
+inOrder s [] later = later
+inOrder s (x ∷ sent) later = inOrder s sent (line (s .group) x ∷ later)
+
+abbrev pub saying : Numbers → World → List Line
+saying s w = inOrder s (w .sent) []

@@ -1,0 +1,101 @@
+-- THE GROUP ON THE WIRE: World.antt and Premises.antt once more, with lines of bytes for messages. What is handed is read by `readLine`, what is sent is written by `spellLine`.
+use Prim.Native.Nat.{ℕ}
+use mathlib.Core.Path.{_≡_}
+use mathlib.Core.List.{List, [], _∷_, _++_, map, List·Memᴰ}
+use mathlib.Core.Option.{Option, none, some}
+use Rattle.units.specs.declared.labels.RoundLabel.{RoundLabel}
+use Rattle.units.specs.declared.refusal.Verdict.{Verdict}
+use Rattle.units.specs.declared.refusal.Verdict.the-variants.{Taken, Refused as Denied}
+use Rattle.units.specs.declared.settings.Numbers.{Numbers}
+use Rattle.vote.specs.declared.digest.Digest.{Digest}
+use Rattle.message.specs.declared.head.Head.the-variants.{Setpoints}
+use Rattle.message.specs.declared.value.Message.{Message}
+use Rattle.lines.specs.Reading.{readLine}
+use Rattle.lines.specs.Writing.{spellLine}
+use Rattle.plan.specs.declared.planned.Sent.{Sent}
+use Rattle.plan.specs.declared.planned.Sent.the-variants.{Nothing, One}
+use Rattle.controller.specs.declared.state.Controller.{Controller}
+use Rattle.controller.specs.declared.step.Answer.{Answer}
+use Rattle.controller.specs.Sent.{sentMessage}
+use Rattle.controller.specs.Step.{stepped}
+use Rattle.group.specs.World.{Mark, mark, put, confirms, rising}
+use Rattle.group.specs.Premises.{Meters, Exchanged, OneReading, OwnNumber, StoredFirst, HighestFloor}
+use Rattle.group.specs.Demand.{Right}
+
+-- every line ever sent, its line feed with it
+pub record Wire : Type 0 where
+  pub up : ℕ → Option Controller
+  pub sent : List (List ℕ)
+  pub stored : List Mark
+  pub confirmed : List Mark
+
+abbrev pub silent : Wire
+silent = record { up = λ i. none; sent = []; stored = []; confirmed = [] }
+
+pub data Happening : Type 0 where
+  hand : ℕ → List ℕ → Happening
+  store : ℕ → RoundLabel → Happening
+  crash : ℕ → Happening
+
+-- what a step sends, as lines
+abbrev pub spelling : Numbers → Controller → Sent → List (List ℕ) → List (List ℕ)
+spelling s c Nothing before = before
+spelling s c (One head) before = spellLine (s .group) (sentMessage s c head head) ∷ before
+
+abbrev pub spelledBy : Numbers → Answer → List (List ℕ) → List (List ℕ)
+spelledBy s r before = spelling s (r .next) (r .second) (spelling s (r .next) (r .first) before)
+
+abbrev pub takes : Numbers → Wire → ℕ → Message → Option Controller → Wire
+takes s w i a none = record { up = put (w .up) i (rising s (a .head)); sent = w .sent; stored = w .stored; confirmed = w .confirmed }
+takes s w i a (some c) =
+    let r = stepped s c a in
+    record { up = put (w .up) i (some (r .next)); sent = spelledBy s r (w .sent); stored = w .stored; confirmed = confirms i (a .head) ++ w .confirmed }
+
+-- a line that is refused, by 1 to 6, changes nothing; its X goes to the host
+abbrev pub hears : Numbers → Wire → ℕ → Message → Verdict → Wire
+hears s w i a Taken = takes s w i a (w .up i)
+hears s w i a (Denied why) = w
+
+abbrev pub afterwards : Numbers → Wire → Happening → Wire
+afterwards s w (hand i line) = hears s w i (readLine (s .group) line .message) (readLine (s .group) line .verdict)
+afterwards s w (store i label) = record { up = w .up; sent = w .sent; stored = mark i label ∷ w .stored; confirmed = w .confirmed }
+afterwards s w (crash i) = record { up = put (w .up) i none; sent = w .sent; stored = w .stored; confirmed = w .confirmed }
+
+-- THE PREMISES, on a line that is read as the message a: the same clauses, and that its bytes were sent
+pub record KeptLine (meters : Meters) (w : Wire) (i : ℕ) (line : List ℕ) (a : Message) : Type 0 where
+  pub one-reading : OneReading meters a
+  pub own-number : OwnNumber i a
+  pub not-made-up : Exchanged (a .head) → List·Memᴰ line (w .sent)
+  pub stored-first : StoredFirst (w .stored) i a
+  pub highest-floor : HighestFloor (w .confirmed) i a
+
+-- nothing is asked of a line that is refused: bytes may be damaged in any way that the reader sees
+abbrev pub OnLine : Numbers → Meters → Wire → Happening → Type 0
+OnLine s meters w (hand i line) = readLine (s .group) line .verdict ≡ Taken → KeptLine meters w i line (readLine (s .group) line .message)
+OnLine s meters w (store i label) = Unit {0}
+OnLine s meters w (crash i) = Unit {0}
+
+pub data OnwardLines (s : Numbers) (meters : Meters) (w : Wire) : Wire → Type 0 where
+  here : OnwardLines s meters w w
+  next : {v : Wire} → OnwardLines s meters w v → (e : Happening) → OnLine s meters v e → OnwardLines s meters w (afterwards s v e)
+
+-- ---- what demand 3 says of bytes
+
+-- the messages that lines are read as
+abbrev pub readAs : Numbers → List ℕ → Message
+readAs s line = readLine (s .group) line .message
+
+abbrev pub readAll : Numbers → List (List ℕ) → List Message
+readAll s sent = map (readAs s) sent
+
+-- the same S from another number
+abbrev pub from : ℕ → RoundLabel → Digest → Message → Message
+from j label digest a = record { head = Setpoints j label digest; readings = a .readings; estimates = a .estimates; targets = a .targets }
+
+pub record Demand3Lines (s : Numbers) (meters : Meters) (w v : Wire) : Type 0 where
+  -- every line S sent so far is right, by the lines D that are ever sent
+  pub right : (x : List ℕ) → List·Memᴰ x (w .sent) → (i : ℕ) (label : RoundLabel) (digest : Digest) → readAs s x .head ≡ Setpoints i label digest
+      → Right s meters (readAll s (v .sent)) label digest (readAs s x .targets)
+  -- a line S of the same label, sent at any time, has the same bytes but for its sender
+  pub same : (x y : List ℕ) → List·Memᴰ x (w .sent) → List·Memᴰ y (v .sent) → (i j : ℕ) (label : RoundLabel) (d e : Digest) → readAs s x .head ≡ Setpoints i label d → readAs s y .head ≡ Setpoints j label e
+      → y ≡ spellLine (s .group) (from j label d (readAs s x))

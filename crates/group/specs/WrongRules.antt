@@ -1,0 +1,220 @@
+-- WHY EACH RULE OF THE STEP IS THERE: wrong rules in its place, with schedules that keep every premise, and two S of one label that differ come of each. They are computed in proofs/Schedules.antt.
+use Prim.Native.Nat.{ℕ, _-_}
+use mathlib.Core.Bool.{Bool, true, false, _&&_, _||_}
+use mathlib.Core.List.{List, [], _∷_, _++_}
+use mathlib.Core.Option.{Option, none, some}
+use lib.Dec.{eqb, ltb}
+use lib.ListN.{replicate}
+use Rattle.units.specs.declared.settings.Numbers.{Numbers}
+use Rattle.units.specs.Limits.{controllersTop}
+use Rattle.units.specs.Pick.{pick}
+use Rattle.vote.specs.declared.judge.Poll.{Poll}
+use Rattle.vote.specs.declared.judge.Poll.the-variants.{Nobody, Won, Refused as Denied}
+use Rattle.vote.specs.declared.votes.Votes.{Votes}
+use Rattle.vote.specs.Decision.{winning}
+use Rattle.vote.specs.Vote.{count, missing, ballots}
+use Rattle.filter.specs.Compute.{newState}
+use Rattle.message.specs.declared.head.Head.{Head}
+use Rattle.message.specs.declared.head.Head.the-variants.{Reading, Query, Reply, Advert, Update, Vote, Setpoints, Due, CollectingEnds, VotingEnds, Floor, Start, Refused}
+use Rattle.message.specs.Message.{plain}
+use Rattle.plan.specs.declared.brief.Phase.{Phase}
+use Rattle.plan.specs.declared.brief.Phase.the-variants.{Idle, Collecting, Pending, Voting}
+use Rattle.plan.specs.declared.planned.Effect.the-variants.{Keep}
+use Rattle.plan.specs.declared.planned.Sent.{Sent}
+use Rattle.plan.specs.declared.planned.Sent.the-variants.{Nothing, One}
+use Rattle.plan.specs.Plan.{afterwards}
+use Rattle.plan.specs.Votes.{possessed}
+use Rattle.controller.specs.declared.state.Controller.{Controller}
+use Rattle.controller.specs.declared.step.Answer.{Answer}
+use Rattle.controller.specs.State.{briefOf, nobody, controllerFits}
+use Rattle.controller.specs.Effects.{inPhase, adopting, issuing}
+use Rattle.controller.specs.Step.{stepped}
+use Rattle.controller_laws.specs.Session.{Line, sends}
+use Rattle.group.specs.World.{empty}
+use Rattle.group.specs.Scripts.{Act, give, pass, fall}
+use Rattle.group.specs.Examples.{round, bothRuns, three}
+use Rattle.group.specs.Schedules.{Stepping, playedBy, Outcome, comesOf, up, low, votes, one, both, run0, parted}
+
+-- ---- small tests
+-- the kinds by number, in document 01's order: M Q R A U D S C E V F B X
+unfoldable pub kind : Head → ℕ
+kind (Reading label run raw) = 0
+kind (Query sender label mask) = 1
+kind (Reply sender label mask) = 2
+kind (Advert sender state) = 3
+kind (Update sender state) = 4
+kind (Vote sender label digest) = 5
+kind (Setpoints sender label digest) = 6
+kind (Due label) = 7
+kind (CollectingEnds label) = 8
+kind (VotingEnds label) = 9
+kind (Floor label) = 10
+kind (Start own floor) = 11
+kind (Refused number) = 12
+
+abbrev pub isIdle : Phase → Bool
+isIdle Idle = true
+isIdle Collecting = false
+isIdle Pending = false
+isIdle Voting = false
+
+abbrev pub isVoting : Phase → Bool
+isVoting Idle = false
+isVoting Collecting = false
+isVoting Pending = false
+isVoting Voting = true
+
+abbrev pub isIssue : Sent → Bool
+isIssue Nothing = false
+isIssue (One head) = eqb (kind head) 6
+
+abbrev pub instead : Answer → Controller → Answer
+instead r c = record { next = c; first = r .first; second = r .second; verdict = r .verdict }
+
+-- ---- own vote before its floor is stored: E does at once what E and F do
+unfoldable pub votesAtOnce : Stepping
+votesAtOnce s c a = pick (eqb (kind (a .head)) 8) (stepped s (stepped s c a .next) (plain (Floor (c .label)))) (stepped s c a)
+
+-- controller 0 votes for run 0 and crashes before any F; nothing was confirmed, so it may restart at 0, and votes for both runs
+unfoldable pub crashAtOnce : List Act
+crashAtOnce =
+    (up 0 ∷ up 1 ∷ up 2 ∷ low 0 1 ∷ give 0 (CollectingEnds (round 1)) ∷ [])
+    ++ one 1 1
+    ++ (pass 1 0 ∷ fall 0 ∷ up 0 ∷ [])
+    ++ both 0 1
+    ++ both 2 1
+    ++ (pass 2 3 ∷ [])
+
+-- ---- a label collected again when idle: M of the current label begins a round, as if the label were one lower and no vote were held
+abbrev pub lowered : Controller → Controller
+lowered c =
+    record {
+      own = c .own;
+      phase = c .phase;
+      label = record { 0 = c .label .0 - 1 };
+      state = c .state;
+      estimates = c .estimates;
+      held = c .held;
+      readings = c .readings;
+      votes = replicate controllersTop nobody;
+    }
+
+unfoldable pub collectsAgain : Stepping
+collectsAgain s c a = pick (eqb (kind (a .head)) 0 && isIdle (c .phase)) (stepped s (lowered c) a) (stepped s c a)
+
+-- controller 0 votes for run 0, V ends its round, it collects the label again and votes for both runs
+unfoldable pub collectedTwice : List Act
+collectedTwice =
+    (up 0 ∷ up 1 ∷ up 2 ∷ [])
+    ++ one 0 1
+    ++ (give 0 (VotingEnds (round 1)) ∷ [])
+    ++ one 1 1
+    ++ (pass 1 1 ∷ [])
+    ++ both 0 1
+    ++ both 2 1
+    ++ (pass 2 6 ∷ [])
+
+-- ---- computing from the held readings instead of the chosen ones
+unfoldable pub computesFromHeld : Stepping
+computesFromHeld s c a =
+    let r = stepped s c a in
+    pick (isIssue (r .first) || isIssue (r .second))
+    (instead r (adopting (r .next) (r .next .state) (newState (c .label) (c .state) (c .estimates) s (c .held) (c .readings)) Idle)) r
+
+-- controllers 0 and 1 vote for run 0, controller 2 for both; 1 and 2 issue the digest of run 0, each from what it holds
+unfoldable pub heldMore : List Act
+heldMore = (up 0 ∷ up 1 ∷ up 2 ∷ []) ++ one 0 1 ++ one 1 1 ++ (pass 1 1 ∷ []) ++ both 2 1 ++ (pass 2 1 ∷ pass 2 3 ∷ [])
+
+abbrev pub partedComputing : List Line
+partedComputing =
+    sends (Setpoints 1 (round 1) (run0 0)) (0x40E2_6588_0000_0000 ∷ 0x40C8_8760_0000_0000 ∷ [])
+    ∷ sends (Setpoints 2 (round 1) (run0 0)) (0x40F2_4F80_0000_0000 ∷ 0x40D8_6A00_0000_0000 ∷ [])
+    ∷ []
+
+-- ---- the v10 shortcut: an open vote is issued where fewer votes are missing than its leader has
+unfoldable pub shortOf : Numbers → Answer → Votes → Poll → Answer
+shortOf s r v (Won d) =
+    let p = afterwards Keep (Setpoints (r .next .own) (r .next .label) d) (r .first) in
+    pick (isVoting (r .next .phase) && ltb (missing (ballots v)) (count d (ballots v)) && possessed (briefOf (r .next)) d)
+    (record { next = issuing s (r .next) d; first = p .first; second = p .second; verdict = r .verdict }) r
+shortOf s r v Nobody = r
+shortOf s r v (Denied why) = r
+
+unfoldable pub stopsShort : Stepping
+stopsShort s c a =
+    let r = stepped s c a in
+    let v : Votes = record { group = s .group; label = r .next .label; seats = r .next .votes } in
+    shortOf s r v (winning v)
+
+-- a group of four
+unfoldable pub four : Numbers
+four =
+    record {
+      group = record { g = 4; m = 2 };
+      q = 1;
+      r = 300;
+      p = 99;
+      factors = 10047 ∷ 10000 ∷ replicate 14 0;
+      weights = 3 ∷ 1 ∷ replicate 14 0;
+    }
+
+-- controllers 0 and 1 issue label 1; in round 2 they vote for run 0 from that state, 2 and 3 for both runs from the start's. 0 stops at v10's votes; 3 sees the tie
+unfoldable pub tieMissed : List Act
+tieMissed =
+    (up 0 ∷ up 1 ∷ [])
+    ++ both 0 1
+    ++ both 1 1
+    ++ (pass 0 3 ∷ pass 1 1 ∷ [])
+    ++ one 0 2
+    ++ one 1 2
+    ++ (up 2 ∷ [])
+    ++ both 2 2
+    ++ (up 3 ∷ [])
+    ++ both 3 2
+    ++ (pass 0 9 ∷ pass 0 11 ∷ pass 3 11 ∷ pass 3 7 ∷ pass 3 9 ∷ [])
+
+abbrev pub partedTie : List Line
+partedTie =
+    sends (Setpoints 0 (round 1) (bothRuns 0)) (0x40F2_4F80_0000_0000 ∷ 0x40D8_6A00_0000_0000 ∷ [])
+    ∷ sends (Setpoints 1 (round 1) (bothRuns 0)) (0x40F2_4F80_0000_0000 ∷ 0x40D8_6A00_0000_0000 ∷ [])
+    ∷ sends (Setpoints 0 (round 2) (run0 1)) (0x40F7_E363_C988_2B93 ∷ 0x40DF_D9DA_620A_E4C4 ∷ [])
+    ∷ sends (Setpoints 3 (round 2) (bothRuns 0)) (0x40F2_7291_8E5D_34FE ∷ 0x40D8_98C2_1326_F152 ∷ [])
+    ∷ []
+
+-- ---- what comes of them; no act is unfair
+abbrev pub wrong : List Outcome
+wrong =
+    comesOf votesAtOnce three crashAtOnce
+    ∷ comesOf collectsAgain three collectedTwice
+    ∷ comesOf computesFromHeld three heldMore
+    ∷ comesOf stopsShort four tieMissed
+    ∷ []
+
+abbrev pub wrongSays : List Outcome
+wrongSays =
+    record { unfair = []; issued = parted }
+    ∷ record { unfair = []; issued = parted }
+    ∷ record { unfair = []; issued = partedComputing }
+    ∷ record { unfair = []; issued = partedTie }
+    ∷ []
+
+-- ---- U taken while voting
+unfoldable pub updatesWhileVoting : Stepping
+updatesWhileVoting s c a =
+    let r = stepped s (inPhase c Idle) a in
+    pick (eqb (kind (a .head)) 4 && isVoting (c .phase)) (instead r (inPhase (r .next) Voting)) (stepped s c a)
+
+-- controller 1 is voting on label 1 when a U of label 1 comes. No S can differ by it, since the chosen state is then not here (13); but the controller is out of range, and all it is handed is 6
+unfoldable pub updatedInside : List Act
+updatedInside =
+    (up 0 ∷ up 1 ∷ up 2 ∷ [])
+    ++ both 0 1
+    ++ both 1 1
+    ++ (pass 0 3 ∷ low 2 2 ∷ give 2 (Due (round 2)) ∷ pass 0 6 ∷ pass 1 7 ∷ [])
+
+abbrev pub fitsIn : Numbers → Option Controller → Bool
+fitsIn s none = true
+fitsIn s (some c) = controllerFits s c
+
+abbrev pub outOfRange : Bool
+outOfRange = fitsIn three (playedBy updatesWhileVoting three empty updatedInside .up 1)
