@@ -1,0 +1,89 @@
+-- DEMAND 2 AS ONE STATEMENT: each clause is a law that stands elsewhere, under the sentence that it answers. Assumes nothing.
+use Prim.Native.Nat.{ℕ, _+_, _≤_}
+use mathlib.Core.Path.{_≡_}
+use mathlib.Core.Bool.{true}
+use mathlib.Core.List.{List, _++_}
+use lib.ListN.{length, take}
+use Rattle.units.specs.declared.refusal.Verdict.{Verdict}
+use Rattle.units.specs.declared.refusal.Verdict.the-variants.{Taken}
+use Rattle.units.specs.declared.settings.Group.{Group}
+use Rattle.units.specs.declared.settings.Numbers.{Numbers}
+use Rattle.units.specs.Limits.{lineTop}
+use Rattle.vote.specs.declared.votes.Votes.{Votes}
+use Rattle.vote.specs.Decision.{decision}
+use Rattle.vote.specs.Vote.{Answers}
+use Rattle.vote.proofs.Answer.{decision-exact}
+use Rattle.message.specs.declared.head.Head.{Head}
+use Rattle.message.specs.declared.settings.Settings.{Settings}
+use Rattle.message.specs.declared.value.Message.{Message}
+use Rattle.message.specs.Message.{messageFits}
+use Rattle.message.specs.Settings.{settingsFit}
+use Rattle.lines.specs.declared.settle.Settling.{Settling}
+use Rattle.lines.specs.Reading.{readLine}
+use Rattle.lines.specs.Settings.{settingLines}
+use Rattle.lines.specs.Settling.{started, settleAll}
+use Rattle.lines.specs.Writing.{spellLine, bufferOf}
+use Rattle.lines.proofs.RoundTrip.{Spelt, read-write, line-only}
+use Rattle.lines.proofs.Saying.{notX}
+use Rattle.lines.proofs.WholeSettings.{Spelt as SettingsSpelt, whole as wholeAt, settings-back, settings-only}
+use Rattle.lines.proofs.Wire.{taken}
+use Rattle.controller.specs.declared.state.Controller.{Controller}
+use Rattle.controller.specs.Sent.{sentMessage}
+use Rattle.controller.specs.Step.{stepped}
+use Rattle.controller_laws.specs.Sendings.{IsSent}
+use Rattle.session.specs.declared.feed.Session.{Session}
+use Rattle.session.specs.declared.stage.Core.{Core}
+use Rattle.session.specs.declared.stage.Stage.{Stage}
+use Rattle.session.specs.declared.stage.Stage.the-variants.{Running}
+use Rattle.session.specs.Demand.{saidBy, stepBy}
+use Rattle.session.specs.Feeding.{finished, lastTurn, sessionStart}
+use Rattle.session.specs.Pieces.{Feeds}
+use Rattle.session.specs.Station.{station}
+use Rattle.session.specs.Turn.{Turn, groupIn, answered, hears, turnBy, stepping, turn}
+use Rattle.session.proofs.Sent.{sent-back}
+use Rattle.session.proofs.Whole.{whole}
+
+-- a running core's turn is a step
+hears-taken : (c : Core) (go : Message → Turn) (a : Message) (v : Verdict) → v ≡ Taken → hears go c a v ≡ go a
+unfolding hears
+hears-taken c go a v e = rw e
+
+turn-at : (c : Core) (line : List ℕ) (stage : Stage) → stage ≡ Running → readLine (groupIn c) line .verdict ≡ Taken → turnBy stepping c line stage ≡ answered c (stepBy c line)
+unfolding turnBy
+turn-at c line stage e t = rw e (hears-taken c (stepping c) (saidBy c line) (readLine (groupIn c) line .verdict) t)
+
+pub turn-steps : (c : Core) (line : List ℕ) → c .stage ≡ Running → readLine (groupIn c) line .verdict ≡ Taken → turn c line ≡ answered c (stepBy c line)
+turn-steps c line e t = turn-at c line (c .stage) e t
+
+pub record Demand2 : Type 0 where
+  -- "Lines are read and written in one spelling, nothing lost": a message that is written is read back whole ..
+  pub read-back : (s : Group) (a : Message) → messageFits s a ≡ true → notX (a .head) ≡ true → readLine s (spellLine s a) ≡ taken a
+  -- .. a line that is read is the one that would be written, and in range ..
+  pub one-spelling : (s : Group) (line : List ℕ) (a : Message) → readLine s line ≡ taken a → Spelt s line a
+  -- .. whatever a step sends is read back as it was sent ..
+  pub sent-read : (s : Numbers) (c : Controller) (a : Message) (head : Head) → IsSent (stepped s c a) head
+      → readLine (s .group) (spellLine (s .group) (sentMessage s (stepped s c a .next) head head)) ≡ taken (sentMessage s (stepped s c a .next) head head)
+  -- .. and so with the settings: written and read again they are the same; what is accepted is in range, and spelled as it would be written
+  pub settings-read : (s : Settings) → settingsFit s ≡ true → settleAll (settingLines s) started ≡ wholeAt (record { line = 3 + s .numbers .group .m; settings = s })
+  pub settings-spelling : (lines : List (List ℕ)) (end : Settling) → settleAll lines started ≡ wholeAt end → SettingsSpelt lines (end .settings)
+  -- "Every step does what the Quarts report and document 01 define, bit for bit": a line that is read by a running controller is one step of `stepped`,
+  -- next state and answer, whose estimates and targets are filter's `computed` in IEEE 754 binary64 ..
+  pub each-step : (c : Core) (line : List ℕ) → c .stage ≡ Running → readLine (groupIn c) line .verdict ≡ Taken → turn c line ≡ answered c (stepBy c line)
+  -- .. from the first byte of an input to the last, however it is cut: the bytes written are those of `station`, which goes by such turns alone
+  pub whole-input : {input out : List ℕ} {y : Session} → Feeds sessionStart input out y → (buf : List ℕ) → lineTop ≤ length buf
+      → out ++ take (finished y (length buf) .wrote) (bufferOf (lastTurn y .text) buf) ≡ station input
+  -- "A vote is decided exactly when every way the missing votes could still come in has the same winner"
+  pub decided-exactly : (v : Votes) → Answers v (decision v)
+
+pub demand2 : Demand2
+demand2 =
+    record {
+      read-back = read-write;
+      one-spelling = line-only;
+      sent-read = sent-back;
+      settings-read = settings-back;
+      settings-spelling = settings-only;
+      each-step = turn-steps;
+      whole-input = whole;
+      decided-exactly = decision-exact;
+    }

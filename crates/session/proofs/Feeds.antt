@@ -1,0 +1,66 @@
+-- The cases of a call and of the end of the input, as the code takes them. Assumes nothing.
+use Prim.Native.Nat.{ℕ, _+_, _≤_, _<_}
+use mathlib.Core.Path.{_≡_, refl, sym, ap, subst, _∙_}
+use mathlib.Core.List.{List, []}
+use native.Mathlib.Omega.{arith}
+use lib.ListN.{length, take}
+use lib.Dec.{ltb}
+use borrow.Author.Tests.{lt-ltb, le-ltb}
+use Rattle.units.specs.declared.refusal.Refusal.the-variants.{Room}
+use Rattle.units.specs.declared.refusal.Verdict.{Verdict}
+use Rattle.units.specs.Pick.{pick}
+use Rattle.fields.specs.declared.text.Scan.{Scan}
+use Rattle.fields.specs.Text.{scanned}
+use Rattle.fields.proofs.Cases.{by-lt}
+use Rattle.fields.proofs.Scans.{scan-within}
+use Rattle.lines.specs.declared.write.Written.{Written}
+use Rattle.lines.specs.declared.write.Written.the-variants.{Done, Refused}
+use Rattle.lines.specs.Writing.{answerOf, bufferOf}
+use Rattle.session.specs.declared.feed.Fed.{Fed}
+use Rattle.session.specs.declared.feed.Session.{Session}
+use Rattle.session.specs.declared.stage.Core.{Core}
+use Rattle.session.specs.declared.stage.Stage.the-variants.{Ended}
+use Rattle.session.specs.declared.turn.Turned.{Turned}
+use Rattle.session.specs.Feeding.{Wrote, advancing, closed, shut, fed, fedText, feedAt, finished, holding, lastOf, lastTurn, lineIn, lineTurn}
+use Rattle.session.specs.Turn.{Turn, settledIn, turnBy, verdictText}
+use Rattle.session.proofs.Room.{fed-holds, text-none, fed-line, text-line}
+use Rattle.session.proofs.Writes.{Puts, puts-none, puts-same}
+
+-- closing by what was written
+pub shut-closed : (x : Session) (end : ℕ) (t : Turn) (r : Turned) (before after : List ℕ) → Wrote t before after r → shut x end (r .next) (r .written) ≡ closed x end t (length before)
+unfolding shut pick
+shut-closed x end t r before after w = by-lt (length before) (length (t .text))
+    (λ h. let e = lt-ltb (length before) (length (t .text)) h in rw (w .0, w .1, e))
+    (λ h. let e = le-ltb (length before) (length (t .text)) h in rw (w .0, w .1, e))
+
+module _ (x : Session) (input : List ℕ) (s : Scan) (e : s ≡ scanned input) where
+  place : s .feed ≡ feedAt input
+  unfolding scanned
+  place = ap (λ k. k .feed) e
+
+  -- the place of the line feed is not past the input
+  pub feed-within : s .feed ≤ length input
+  feed-within = let a = scan-within input in let b : s .feed ≡ scanned input .feed = ap (λ k. k .feed) e in omega arith
+
+  pub feed-held : (r : Fed) (buf : List ℕ) → s .feed ≡ length input → r ≡ holding x input → (r ≡ fed x input (length buf)) × (buf ≡ bufferOf (fedText x input) buf)
+  feed-held r buf n h =
+      let k = sym place ∙ n in
+      (h ∙ sym (fed-holds x input (length buf) k), puts-none buf .1 ∙ ap (λ t. bufferOf t buf) (sym (text-none x input k)))
+
+  pub feed-turned : (r : Fed) (t : Turned) (before after : List ℕ) → (s .feed ≡ length input → ⊥)
+      → Wrote (turnBy advancing (x .core) (lineIn (x .carry) (take (s .feed + 1) input)) (x .core .stage)) before after t → r ≡ shut x (s .feed + 1) (t .next) (t .written)
+      → (r ≡ fed x input (length before)) × (after ≡ bufferOf (fedText x input) before)
+  feed-turned r t before after n w h =
+      let k : feedAt input ≡ length input → ⊥ = λ q. n (place ∙ q) in
+      let v : Wrote (lineTurn x input) before after t = subst (λ i. Wrote (turnBy advancing (x .core) (lineIn (x .carry) (take (i + 1) input)) (x .core .stage)) before after t) place w in (
+        h ∙ ap (λ i. shut x (i + 1) (t .next) (t .written)) place ∙ shut-closed x (feedAt input + 1) (lineTurn x input) t before after v ∙ sym (fed-line x input (length before) k),
+        v .2 ∙ ap (λ u. bufferOf u before) (sym (text-line x input k)),
+      )
+
+-- the end of the input
+pub finish-shut : (x : Session) (n : Core) (v : Verdict) (w : Written) (r : Fed) (before after : List ℕ) → n ≡ settledIn (x .core) Ended (x .core .settling)
+    → v ≡ lastOf (x .core .settling) (x .carry .len) (x .core .stage) → Puts (verdictText v) before after w → r ≡ shut x 0 n w
+    → (r ≡ finished x (length before)) × (after ≡ bufferOf (lastTurn x .text) before)
+finish-shut x n v w r before after e f p h =
+    let q : Puts (lastTurn x .text) before after w = puts-same before (ap verdictText (sym f)) p in
+    (h ∙ shut-closed x 0 (lastTurn x) (record { next = n; written = w }) before after (e, q .0, q .1), q .1)

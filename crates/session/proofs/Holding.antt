@@ -1,0 +1,48 @@
+-- What is held of a line: what the code of `carry` needs. Assumes nothing.
+use Prim.Native.Nat.{ℕ, _+_, _-_, _≤_, _<_}
+use mathlib.Core.Path.{_≡_, refl, sym, ap, _∙_}
+use mathlib.Core.List.{List, []}
+use native.Mathlib.Omega.{arith}
+use lib.ListN.{length, take, length-take}
+use lib.Seq.{take-all, take-take, length-take-le}
+use lib.Dec.{ltb}
+use borrow.Author.Tests.{lt-ltb, le-ltb, eq-eqb, ne-eqb}
+use Rattle.units.specs.Pick.{pick}
+use Rattle.units.proofs.Picked.{by-yes, by-no}
+use Rattle.fields.specs.Put.{put, putEnd}
+use Rattle.fields.proofs.Cases.{by-lt}
+use Rattle.session.specs.declared.carry.Carry.{Carry}
+use Rattle.session.specs.Feeding.{carryTop, fitting, held, lineIn}
+
+-- how many more bytes are held
+pub fitting-none : (len n : ℕ) → 601 < len → 0 ≡ fitting len n
+unfolding fitting pick
+fitting-none len n h = let z : 601 - len ≡ 0 = omega arith in rw (z, le-ltb n 0 (omega arith))
+
+pub fitting-all : (len n : ℕ) → n < 601 - len → n ≡ fitting len n
+unfolding fitting
+fitting-all len n h = by-yes _ (lt-ltb n (601 - len) h) refl
+
+pub fitting-some : (len n : ℕ) → 601 - len ≤ n → 601 - len ≡ fitting len n
+unfolding fitting
+fitting-some len n h = by-no _ (le-ltb n (601 - len) h) refl
+
+pub fitting-take : (len n : ℕ) (l : List ℕ) → take (fitting len n) l ≡ take (carryTop - len) (take n l)
+fitting-take len n l = by-lt n (601 - len)
+    (λ h. ap (λ k. take k l) (sym (fitting-all len n h)) ∙ sym (take-all (601 - len) (take n l) (let t = length-take n l in omega arith)))
+    (λ h. ap (λ k. take k l) (sym (fitting-some len n h)) ∙ sym (take-take (601 - len) n l h))
+
+-- the carry after more bytes
+pub held-made : (k : Carry) (n m r : ℕ) (input s b : List ℕ) → m ≡ fitting (k .len) n → s ≡ take m input → r ≡ putEnd (k .bytes) (k .len) s → b ≡ put (k .bytes) (k .len) s
+    → record { len = r; bytes = b } ≡ held k (take n input)
+unfolding held
+held-made k n m r input s b e t p q = let u = t ∙ ap (λ j. take j input) e ∙ fitting-take (k .len) n input in rw (p, q, u)
+
+-- the line that ends
+pub line-alone : (k : Carry) (more : List ℕ) → k .len ≡ 0 → lineIn k more ≡ more
+unfolding lineIn pick
+line-alone k more e = rw (eq-eqb (k .len) 0 e)
+
+pub line-whole : (k w : Carry) (more : List ℕ) → (k .len ≡ 0 → ⊥) → w ≡ held k more → lineIn k more ≡ take (w .len) (w .bytes)
+unfolding lineIn pick
+line-whole k w more e h = rw (ne-eqb (k .len) 0 e, h)

@@ -1,0 +1,19 @@
+-- The laws of `session`.
+pub mod Holding
+pub mod Writes
+pub mod Turns
+pub mod Fits
+pub mod Same
+pub mod Long
+pub mod Lines
+pub mod Carrying
+pub mod Room
+pub mod Whole
+pub mod Runs
+pub mod Verdicts
+pub mod Demand1
+pub mod Sent
+pub mod Demand2
+pub mod Program
+pub mod Both
+pub mod Feeds

@@ -1,0 +1,212 @@
+-- FEEDING ANY INPUT, CUT INTO PIECES IN ANY WAY, WRITES EXACTLY WHAT THE STATION PROGRAM WRITES. Assumes nothing.
+use Prim.Native.Nat.{ℕ, _+_, _≤_}
+use native.Mathlib.Omega.{arith}
+use mathlib.Core.Path.{_≡_, refl, sym, ap, subst, _∙_}
+use mathlib.Core.Bool.{true}
+use mathlib.Core.List.{List, [], _∷_, _++_, append-nil, append-assoc}
+use lib.Dec.{eqb}
+use lib.ListN.{length, take, drop}
+use lib.Seq.{drop-length, length-take-le, take-all}
+use borrow.Author.Tests.{eqb-true, eqb-false, ne-eqb, lt-ltb}
+use Rattle.units.specs.declared.refusal.Verdict.{Verdict}
+use Rattle.units.specs.Limits.{lineTop}
+use Rattle.units.specs.Pick.{pick}
+use Rattle.units.specs.Settings.{groupFits, numbersFit}
+use Rattle.fields.specs.Text.{lineFeed, until, lacks}
+use Rattle.fields.proofs.Cases.{by-test, by-lt}
+use Rattle.fields.proofs.Texts.{lacks-append, until-lacks}
+use Rattle.lines.specs.declared.settle.Settling.{Settling}
+use Rattle.lines.specs.Writing.{bufferOf}
+use Rattle.controller_laws.proofs.Valid.{group-fits}
+use Rattle.session.specs.declared.feed.Fed.{Fed}
+use Rattle.session.specs.declared.feed.Session.{Session}
+use Rattle.session.specs.declared.stage.Core.{Core}
+use Rattle.session.specs.declared.stage.Stage.{Stage}
+use Rattle.session.specs.declared.stage.Stage.the-variants.{Settling as AtSettings, Waiting, Running, Ended}
+use Rattle.session.specs.Feeding.{carryTop, advancing, feedAt, lineTurn, holding, fed, fedText, unended, unendedLine, lastOf, lastTurn, finished, sessionStart}
+use Rattle.session.specs.Pieces.{Feeds, unfinished, lineAt, Stands}
+use Rattle.session.specs.Pieces.Feeds.{none, more}
+use Rattle.session.specs.Reach.{FitsAt, CoreFits}
+use Rattle.session.specs.Station.{linesOf, closing, answers, station}
+use Rattle.session.specs.Turn.{Turn, groupIn, numbersIn, settlesTo, hears, verdictText, turnBy, stepping, turn}
+use Rattle.session.proofs.Carrying.{start-holds, emptied-holds, held-holds, line-same}
+use Rattle.session.proofs.Fits.{start-fits, turn-fits}
+use Rattle.session.proofs.Lines.{lines-feed, lines-last, lines-none, unfinished-all, unfinished-feed, feed-split, feed-line, feed-none}
+use Rattle.session.proofs.Long.{read-unended, settle-unended}
+use Rattle.session.proofs.Room.{verdict-short, fed-holds, fed-line, text-line, closed-room, closed-none, front-take}
+use Rattle.session.proofs.Same.{same-turn}
+
+-- at the start nothing is read
+pub start-stands : Stands sessionStart []
+unfolding sessionStart lacks
+start-stands = record { fits = start-fits; unended = refl; held = start-holds }
+
+-- THE LINE AT HAND, as the document has it
+pub line-turn : (x : Session) (p piece : List ℕ) → Stands x p → lineTurn x piece ≡ turn (x .core) (lineAt p piece)
+line-turn x p piece s = line-same (x .carry) p (take (feedAt piece + 1) piece) (s .held) advancing (x .core) (x .core .stage) ∙ same-turn (x .core) (lineAt p piece) (s .fits)
+
+-- an input's answers, by its first line
+answers-on : (c : Core) (l : List ℕ) (ls : List (List ℕ)) → answers c (l ∷ ls) ≡ turn c l .text ++ answers (turn c l .next) ls
+unfolding answers
+answers-on c l ls = refl
+
+-- a line off the front, where the piece has its line feed
+module _ (p piece rest : List ℕ) (n : feedAt piece ≡ length piece → ⊥) where
+  abbrev later : List ℕ
+  later = drop (feedAt piece + 1) piece
+
+  feed-parts : p ++ (piece ++ rest) ≡ (p ++ until lineFeed piece) ++ (lineFeed ∷ (later ++ rest))
+  feed-parts =
+      let u = until lineFeed piece in
+      ap {B = List ℕ} (λ (l : List ℕ). p ++ (l ++ rest)) (feed-split piece n)
+      ∙ ap (λ (l : List ℕ). p ++ l) (append-assoc u (lineFeed ∷ later) rest)
+      ∙ sym (append-assoc p u (lineFeed ∷ (later ++ rest)))
+
+  lines-off : lacks lineFeed p ≡ true → linesOf (p ++ (piece ++ rest)) ≡ lineAt p piece ∷ linesOf (later ++ rest)
+  lines-off e =
+      let u = until lineFeed piece in
+      let y : (p ++ u) ++ (lineFeed ∷ []) ≡ lineAt p piece = append-assoc p u (lineFeed ∷ []) ∙ ap (λ (l : List ℕ). p ++ l) (sym (feed-line piece n)) in
+      ap linesOf feed-parts ∙ lines-feed (p ++ u) (later ++ rest) (lacks-append lineFeed p u e (until-lacks lineFeed piece))
+      ∙ ap {B = List (List ℕ)} (λ (l : List ℕ). l ∷ linesOf (later ++ rest)) y
+
+  unfinished-off : unfinished (p ++ (piece ++ rest)) ≡ unfinished (later ++ rest)
+  unfinished-off = ap unfinished feed-parts ∙ unfinished-feed (p ++ until lineFeed piece) (later ++ rest)
+
+-- ONE CALL: the line so far after it, and what it wrote of the answers
+record One (x : Session) (p piece : List ℕ) (r : Fed) (wrote : List ℕ) : Type 0 where
+  pub now : List ℕ
+  pub stands : Stands (r .next) now
+  pub said : (rest : List ℕ) → answers (x .core) (linesOf (p ++ (piece ++ rest))) ≡ wrote ++ answers (r .next .core) (linesOf (now ++ (drop (r .took) piece ++ rest)))
+  pub left : (rest : List ℕ) → unfinished (p ++ (piece ++ rest)) ≡ unfinished (now ++ (drop (r .took) piece ++ rest))
+
+module _ (x : Session) (p piece : List ℕ) (s : Stands x p) where
+  one-held : feedAt piece ≡ length piece → One x p piece (holding x piece) []
+  one-held e =
+      record {
+        now = p ++ piece;
+        stands = record { fits = s .fits; unended = lacks-append lineFeed p piece (s .unended) (feed-none piece e); held = held-holds (x .carry) p piece (s .held) };
+        said = λ rest. rw (drop-length piece, append-assoc p piece rest);
+        left = λ rest. rw (drop-length piece, append-assoc p piece rest);
+      }
+
+  one-refused : (v : Verdict) → One x p piece (record { next = x; took = 0; wrote = 0; verdict = v }) []
+  one-refused v = record { now = p; stands = s; said = λ rest. refl; left = λ rest. refl }
+
+  pub next-stands : Stands (record { core = lineTurn x piece .next; carry = record { len = 0; bytes = x .carry .bytes } }) []
+  unfolding lacks
+  next-stands =
+      record {
+        fits = subst (λ (t : Turn). CoreFits (t .next)) (sym (line-turn x p piece s)) (turn-fits (x .core) (lineAt p piece) (s .fits));
+        unended = refl;
+        held = emptied-holds (x .carry) p (s .held);
+      }
+
+  one-line : (v : Verdict) → (feedAt piece ≡ length piece → ⊥)
+      → One x p piece (record { next = record { core = lineTurn x piece .next; carry = record { len = 0; bytes = x .carry .bytes } }; took = feedAt piece + 1; wrote = length (lineTurn x piece .text); verdict = v }) (lineTurn x piece .text)
+  one-line v n =
+      record {
+        now = [];
+        stands = next-stands;
+        said = λ rest.
+            ap (answers (x .core)) (lines-off p piece rest n (s .unended))
+            ∙ answers-on (x .core) (lineAt p piece) (linesOf (drop (feedAt piece + 1) piece ++ rest))
+            ∙ ap {B = List ℕ} (λ (t : Turn). t .text ++ answers (t .next) (linesOf (drop (feedAt piece + 1) piece ++ rest))) (sym (line-turn x p piece s));
+        left = λ rest. unfinished-off p piece rest n;
+      }
+
+  one : (buf : List ℕ) → One x p piece (fed x piece (length buf)) (take (fed x piece (length buf) .wrote) (bufferOf (fedText x piece) buf))
+  one buf =
+      by-test (eqb (feedAt piece) (length piece))
+      (λ e. rw (fed-holds x piece (length buf) (eqb-true (feedAt piece) (length piece) e)) (one-held (eqb-true (feedAt piece) (length piece) e)))
+      (λ e. with-line (eqb-false (feedAt piece) (length piece) e))
+    where
+      with-line : (feedAt piece ≡ length piece → ⊥) → One x p piece (fed x piece (length buf)) (take (fed x piece (length buf) .wrote) (bufferOf (fedText x piece) buf))
+      with-line n =
+          rw (fed-line x piece (length buf) n, text-line x piece n)
+          (by-lt (length buf) (length (lineTurn x piece .text))
+          (λ l. rw (closed-none x (feedAt piece + 1) (lineTurn x piece) (length buf) l) (one-refused _))
+          (λ l. rw (closed-room x (feedAt piece + 1) (lineTurn x piece) (length buf) l, front-take (lineTurn x piece .text) buf l) (one-line _ n)))
+
+-- A RUN OF CALLS: the line so far after it, and the answers to all lines before
+pub record Ran (c : Core) (input out : List ℕ) (y : Session) : Type 0 where
+  pub now : List ℕ
+  pub stands : Stands y now
+  pub said : answers c (linesOf input) ≡ out ++ answers (y .core) (linesOf now)
+  pub left : unfinished input ≡ now
+
+pub run : {x y : Session} {input out : List ℕ} → Feeds x input out y → (p : List ℕ) → Stands x p → Ran (x .core) (p ++ input) out y
+run none p s = record { now = p; stands = s; said = rw (append-nil p); left = rw (append-nil p) (unfinished-all p (s .unended)) }
+run (more {x} {y} piece rest buf {out} f) p s =
+    let o = one x p piece s buf in
+    let r = run f (o .now) (o .stands) in
+    let w = take (fed x piece (length buf) .wrote) (bufferOf (fedText x piece) buf) in
+    record {
+      now = r .now;
+      stands = r .stands;
+      said = o .said rest ∙ ap (λ (l : List ℕ). w ++ l) (r .said) ∙ sym (append-assoc w out (answers (y .core) (linesOf (r .now))));
+      left = o .left rest ∙ r .left;
+    }
+
+-- THE END OF THE INPUT
+-- a piece without a line feed is judged by what is held of it
+last-same : (st : Settling) (p : List ℕ) (stage : Stage) → lastOf st (length (take carryTop p)) stage ≡ lastOf st (length p) stage
+unfolding lastOf unendedLine pick
+last-same st p stage =
+    by-lt (length p) carryTop
+    (λ h. rw (take-all carryTop p (omega arith)))
+    (λ h. long stage (length-take-le carryTop p h) h)
+  where
+    long : (stage : Stage) → length (take carryTop p) ≡ carryTop → carryTop ≤ length p → lastOf st (length (take carryTop p)) stage ≡ lastOf st (length p) stage
+    long AtSettings n h = rw (n, lt-ltb lineTop (length p) (omega arith))
+    long Waiting n h = rw (n, lt-ltb lineTop (length p) (omega arith), ne-eqb (length p) 0 (λ q. absurd (omega arith)))
+    long Running n h = rw (n, lt-ltb lineTop (length p) (omega arith), ne-eqb (length p) 0 (λ q. absurd (omega arith)))
+    long Ended n h = refl
+
+group-in : (c : Core) → numbersFit (numbersIn c) ≡ true → groupFits (groupIn c) ≡ true
+group-in c f = group-fits (numbersIn c) f
+
+-- a last line without its line feed, and what follows it
+abbrev lastText : Turn → List ℕ
+lastText t = t .text ++ answers (t .next) []
+
+unended-text : (c : Core) (b : ℕ) (p : List ℕ) (stage : Stage) → c .stage ≡ stage → FitsAt c stage → lacks lineFeed (b ∷ p) ≡ true
+    → lastText (turnBy stepping c (b ∷ p) stage) ≡ verdictText (lastOf (c .settling) (length (b ∷ p)) stage)
+unfolding turnBy lastOf unendedLine pick settlesTo hears answers closing verdictText
+unended-text c b p AtSettings e f l = rw (settle-unended (c .settling) (b ∷ p) l) (append-nil _)
+unended-text c b p Waiting e f l = rw (read-unended (groupIn c) (b ∷ p) (group-in c f) l, e, ne-eqb (length (b ∷ p)) 0 (λ q. absurd (omega arith))) (append-nil _)
+unended-text c b p Running e f l = rw (read-unended (groupIn c) (b ∷ p) (group-in c (f .0)) l, e, ne-eqb (length (b ∷ p)) 0 (λ q. absurd (omega arith))) (append-nil _)
+unended-text c b p Ended e f l = rw e
+
+none-text : (c : Core) (stage : Stage) → closing c stage ≡ verdictText (lastOf (c .settling) 0 stage)
+unfolding lastOf unendedLine pick closing verdictText
+none-text c AtSettings = refl
+none-text c Waiting = refl
+none-text c Running = refl
+none-text c Ended = refl
+
+last-text : (c : Core) (p : List ℕ) → CoreFits c → lacks lineFeed p ≡ true → answers c (linesOf p) ≡ verdictText (lastOf (c .settling) (length p) (c .stage))
+unfolding answers
+last-text c [] f l = rw lines-none (none-text c (c .stage))
+last-text c (b ∷ p) f l = rw (lines-last b p l) (unended-text c b p (c .stage) refl f l)
+
+pub end-text : (y : Session) (p : List ℕ) → Stands y p → answers (y .core) (linesOf p) ≡ lastTurn y .text
+end-text y p s = last-text (y .core) p (s .fits) (s .unended) ∙ ap verdictText (sym (last-same (y .core .settling) p (y .core .stage)) ∙ ap (λ (n : ℕ). lastOf (y .core .settling) n (y .core .stage)) (sym (s .held .len)))
+
+-- what `finish` writes, with a line's room
+pub finish-wrote : (y : Session) (buf : List ℕ) → lineTop ≤ length buf → take (finished y (length buf) .wrote) (bufferOf (lastTurn y .text) buf) ≡ lastTurn y .text
+finish-wrote y buf h =
+    let a = verdict-short (lastOf (y .core .settling) (y .carry .len) (y .core .stage)) in
+    let l : length (lastTurn y .text) ≤ length buf = omega arith in
+    rw (closed-room y 0 (lastTurn y) (length buf) l) (front-take (lastTurn y .text) buf l)
+
+-- from a session on the way, the rest of an input
+pub whole-from : {x y : Session} {input out : List ℕ} → Feeds x input out y → (p : List ℕ) → Stands x p → (buf : List ℕ) → lineTop ≤ length buf
+    → out ++ take (finished y (length buf) .wrote) (bufferOf (lastTurn y .text) buf) ≡ answers (x .core) (linesOf (p ++ input))
+whole-from {x} {y} {input} {out} f p s buf h =
+    let r = run f p s in ap (λ (l : List ℕ). out ++ l) (finish-wrote y buf h ∙ sym (end-text y (r .now) (r .stands))) ∙ sym (r .said)
+
+-- THE WHOLE INPUT in any pieces, with any buffers lent, then the end: exactly the station program's output
+pub whole : {input out : List ℕ} {y : Session} → Feeds sessionStart input out y → (buf : List ℕ) → lineTop ≤ length buf
+    → out ++ take (finished y (length buf) .wrote) (bufferOf (lastTurn y .text) buf) ≡ station input
+unfolding sessionStart
+whole f buf h = whole-from f [] start-stands buf h

@@ -1,0 +1,36 @@
+-- `Carry::read_on` meets its contract. Assumes nothing.
+use mathlib.Core.Path.{sym, ap, _∙_}
+use Rattle.lines.specs.Reading.{readLine}
+use Rattle.session.proofs.Holding.{line-alone, line-whole}
+use borrow.Author.Needs.{needs}
+use Rattle.session.proofs.carry.Carry.read_on.Statement.{statement}
+use Rattle.session.proofs.carry.Carry.read_on.Tie as tie
+
+read-first-requires : tie.Need-read-first-requires
+read-first-requires c κs = search needs
+
+returns : tie.Need-returns
+returns c = let a = c .before .before .before .before .args in c .read-first .ensures ∙ ap (readLine (a .group)) (sym (line-alone (a .self) _ (c .before .if1 .taken)))
+
+hold-requires : tie.Need-hold-requires
+hold-requires c κs = search needs
+
+slice-aggregate-read-first : tie.Need-slice-aggregate-read-first
+slice-aggregate-read-first c = search needs
+
+read-first-requires-2 : tie.Need-read-first-requires-2
+read-first-requires-2 c κs = search needs
+
+returns-2 : tie.Need-returns-2
+returns-2 c = let a = c .before .before .before .before .before .before .before .args in c .read-first2 .ensures ∙ ap (readLine (a .group)) (sym (line-whole (a .self) _ _ (c .before .before .before .before .if1 .left) (c .before .before .before .hold .ensures)))
+
+pub read-on-spec : {M : Type 1} → statement M
+read-on-spec =
+    tie.close
+    (tie.spec
+    read-first-requires
+    returns
+    hold-requires
+    slice-aggregate-read-first
+    read-first-requires-2
+    returns-2)

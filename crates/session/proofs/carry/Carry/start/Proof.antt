@@ -1,0 +1,12 @@
+-- `Carry::start` meets its contract. Assumes nothing.
+use mathlib.Core.Path.{refl}
+use Rattle.session.specs.Feeding.{carryStart}
+use Rattle.session.proofs.carry.Carry.start.Statement.{statement}
+use Rattle.session.proofs.carry.Carry.start.Tie as tie
+
+returns : tie.Need-returns
+unfolding carryStart
+returns c = refl
+
+pub start-spec : {M : Type 1} → statement M
+start-spec = tie.close (tie.spec returns)

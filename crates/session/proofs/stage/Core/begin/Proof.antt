@@ -1,0 +1,22 @@
+-- `Core::begin` meets its contract. Assumes nothing.
+use mathlib.Core.Path.{ap, _∙_}
+use borrow.Author.Needs.{needs}
+use Rattle.lines.specs.declared.write.Written.the-variants.{Done}
+use Rattle.session.specs.Turn.{runningWith}
+use Rattle.session.proofs.stage.Core.begin.Statement.{statement}
+use Rattle.session.proofs.stage.Core.begin.Tie as tie
+
+begin-requires : tie.Need-begin-requires
+begin-requires c κs = search needs
+
+running-requires : tie.Need-running-requires
+running-requires c κs = search needs
+
+quiet-requires : tie.Need-quiet-requires
+quiet-requires c κs = search needs
+
+returns : tie.Need-returns
+returns c = let a = c .before .before .before .before .before .before .args in c .quiet .ensures ∙ ap (λ n. record { next = n; written = Done 0 }) (c .before .running .ensures ∙ ap (runningWith (a .self)) (c .before .before .begin .ensures))
+
+pub begin-spec : {M : Type 1} → statement M
+begin-spec = tie.close (tie.spec begin-requires running-requires quiet-requires returns)

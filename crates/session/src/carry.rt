@@ -1,0 +1,108 @@
+// What is held of a line that has not ended: its first 601 bytes, enough to know that it is too long.
+ghost use mathlib.Core.Path.{_≡_};
+ghost use lib.ListN.{take};
+ghost use Rattle.lines.specs.Reading.{readLine};
+ghost use Rattle.lines.specs.Settling.{settleLine};
+ghost use Rattle.session.specs.Feeding.{carryStart, emptied, held, lineIn};
+use fields::put_part;
+use lines::Line;
+use lines::read::read;
+use lines::settle::Settled;
+use lines::settle::Settling;
+use units::Group;
+
+// The first `len` bytes count.
+pub struct Carry {
+    pub len: usize,
+    pub bytes: [u8; 601],
+}
+
+// How many of n more bytes are held.
+fn fitting(len: usize, n: usize) -> usize
+    ensures { λ r. ⌜ r ≡ Rattle.session.specs.Feeding.fitting len n ⌝ }
+{
+    if 601 < len {
+        return 0;
+    }
+    let most = 601 - len;
+    if n < most { n } else { most }
+}
+
+impl Carry {
+    pub fn start() -> Carry
+        ensures { λ r. ⌜ r ≡ carryStart ⌝ }
+    {
+        Carry {
+            len: 0,
+            bytes: [0u8; 601],
+        }
+    }
+
+    // Nothing is held; the bytes stay, of no account.
+    pub fn emptied(self) -> Carry
+        ensures { λ r. ⌜ r ≡ emptied self ⌝ }
+    {
+        let bytes = self.bytes;
+        Carry { len: 0, bytes }
+    }
+
+    // Holds the first n bytes of an input too.
+    pub fn hold(self, input: &[u8], n: usize) -> Carry
+        ensures { λ r. ⌜ r ≡ held self (take n (now (input .entry))) ⌝ }
+    {
+        let mut bytes = self.bytes;
+        let k = fitting(self.len, n);
+        let len = if input.len() < k {
+            put_part(&mut bytes, self.len, input)
+        } else {
+            put_part(&mut bytes, self.len, &input[..k])
+        };
+        Carry { len, bytes }
+    }
+}
+
+// What a line of the first n bytes says.
+fn read_first(bytes: &[u8], n: usize, group: Group) -> Line
+    ensures { λ r. ⌜ r ≡ readLine group (take n (now (bytes .entry))) ⌝ }
+{
+    if n < bytes.len() {
+        return read(&bytes[..n], group);
+    }
+    read(bytes, group)
+}
+
+// The first n bytes as a line of the settings.
+fn take_first(settling: Settling, bytes: &[u8], n: usize) -> Settled
+    ensures { λ r. ⌜ r ≡ settleLine settling (take n (now (bytes .entry))) ⌝ }
+{
+    if n < bytes.len() {
+        return settling.take(&bytes[..n]);
+    }
+    settling.take(bytes)
+}
+
+impl Carry {
+    // What the line says that ends with the first n bytes of an input.
+    pub fn read_on(self, input: &[u8], n: usize, group: Group) -> Line
+        ensures { λ r. ⌜ r ≡ readLine group (lineIn self (take n (now (input .entry)))) ⌝ }
+    {
+        if self.len == 0 {
+            return read_first(input, n, group);
+        }
+        let whole = self.hold(input, n);
+        let bytes = whole.bytes;
+        read_first(&bytes, whole.len, group)
+    }
+
+    // The same of a line of the settings.
+    pub fn take_on(self, settling: Settling, input: &[u8], n: usize) -> Settled
+        ensures { λ r. ⌜ r ≡ settleLine settling (lineIn self (take n (now (input .entry)))) ⌝ }
+    {
+        if self.len == 0 {
+            return take_first(settling, input, n);
+        }
+        let whole = self.hold(input, n);
+        let bytes = whole.bytes;
+        take_first(settling, &bytes, whole.len)
+    }
+}

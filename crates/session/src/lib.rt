@@ -1,0 +1,12 @@
+// The station program as a library on byte slices: settings first, then a controller; bytes in, bytes out.
+pub mod answer;
+pub mod carry;
+pub mod feed;
+pub mod stage;
+pub mod turn;
+
+pub use carry::Carry;
+pub use feed::Fed;
+pub use feed::Session;
+pub use stage::Core;
+pub use stage::Stage;

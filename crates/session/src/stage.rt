@@ -1,0 +1,58 @@
+// What a session is at: the settings, before the first B, a running controller, or its end.
+ghost use mathlib.Core.Path.{_≡_};
+ghost use Rattle.session.specs.Turn.{coreStart, settledIn, runningWith};
+use controller::Controller;
+use lines::settle::Settling;
+use units::RoundLabel;
+
+pub enum Stage {
+    Settling,
+    Waiting,
+    Running,
+    Ended,
+}
+
+// The settings read so far, and the controller, which counts once it runs.
+pub struct Core {
+    pub stage: Stage,
+    pub settling: Settling,
+    pub controller: Controller,
+}
+
+impl Core {
+    // Nothing is read.
+    pub fn start() -> Core
+        ensures { λ r. ⌜ r ≡ coreStart ⌝ }
+    {
+        let settling = Settling::start();
+        let numbers = settling.settings.numbers;
+        let controller = Controller::begin(numbers, 0, RoundLabel(0));
+        Core {
+            stage: Stage::Settling,
+            settling,
+            controller,
+        }
+    }
+
+    pub(crate) fn settled(self, stage: Stage, settling: Settling) -> Core
+        ensures { λ r. ⌜ r ≡ settledIn self stage settling ⌝ }
+    {
+        let controller = self.controller;
+        Core {
+            stage,
+            settling,
+            controller,
+        }
+    }
+
+    pub(crate) fn running(self, controller: Controller) -> Core
+        ensures { λ r. ⌜ r ≡ runningWith self controller ⌝ }
+    {
+        let settling = self.settling;
+        Core {
+            stage: Stage::Running,
+            settling,
+            controller,
+        }
+    }
+}
