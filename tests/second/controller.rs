@@ -79,9 +79,10 @@ impl Controller {
 
     fn take_m(&mut self, label: u32, run: usize, raw: u32) -> Result<(), u8> {
         let idle = self.phase == Phase::Idle;
+        let again = wrong::is("collects-again") && label == self.label && idle;
         let late = label <= self.state_label || label < self.label || (label == self.label && idle);
-        must(!late, LATE)?;
-        if label > self.label {
+        must(!late || (again && label > self.state_label), LATE)?;
+        if label > self.label || again {
             self.label = label;
             self.phase = Phase::Collecting;
             self.held = 0;
@@ -141,7 +142,8 @@ impl Controller {
     }
 
     fn take_u(&mut self, settings: &Settings, label: u32, state: &State) -> Result<(), u8> {
-        let takes = matches!(self.phase, Phase::Idle | Phase::Collecting);
+        let takes = matches!(self.phase, Phase::Idle | Phase::Collecting)
+            || (wrong::is("update-while-voting") && self.phase == Phase::Voting);
         must(takes, CLOSED)?;
         let runs = settings.runs as usize;
         if label == self.state_label {
@@ -186,7 +188,8 @@ impl Controller {
         out: &mut Vec<u8>,
     ) -> Result<(), u8> {
         self.open(label, self.phase != Phase::Idle)?;
-        must(self.votes[sender].is_none_or(|kept| kept == digest), CLASH)?;
+        let free = self.votes[sender].is_none_or(|kept| kept == digest);
+        must(free || wrong::is("second-digest"), CLASH)?;
         self.votes[sender] = Some(digest);
         if self.phase == Phase::Voting {
             return self.judge(settings, out);
@@ -216,7 +219,8 @@ impl Controller {
     /// Computes, sends S and sets the state label to the label of the round.
     fn issue(&mut self, settings: &Settings, digest: Digest, out: &mut Vec<u8>) {
         let n = self.label - self.state_label;
-        self.state = compute(settings, &self.state, n, digest.mask, &self.raws);
+        let mask = if wrong::is("held-readings") { self.held } else { digest.mask };
+        self.state = compute(settings, &self.state, n, mask, &self.raws);
         self.state_label = self.label;
         let targets = targets(settings, &self.state);
         write(settings, &Message::S { sender: self.own, label: self.label, digest, targets }, out);

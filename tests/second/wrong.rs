@@ -2,7 +2,15 @@
 
 /// The names of the faults.
 #[cfg(wrong)]
-pub const NAMES: [&str; 3] = ["early-vote", "forgets-floor", "shortcut"];
+pub const NAMES: [&str; 7] = [
+    "early-vote",
+    "forgets-floor",
+    "shortcut",
+    "collects-again",
+    "held-readings",
+    "update-while-voting",
+    "second-digest",
+];
 
 #[cfg(wrong)]
 static CHOSEN: std::sync::OnceLock<String> = std::sync::OnceLock::new();

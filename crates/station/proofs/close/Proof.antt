@@ -1,0 +1,26 @@
+-- `close` meets its contract. Assumes nothing.
+use Prim.Native.Nat.{_≤_}
+use native.Mathlib.Omega.{arith}
+use mathlib.Core.Path.{ap, _∙_}
+use mathlib.Core.List.{List}
+use lib.ListN.{length}
+use borrow.Author.Needs.{needs}
+use Rattle.session.specs.Feeding.{lastTurn}
+use Rattle.session.proofs.Room.{finish-wrote, buffer-length}
+use Rattle.station.proofs.close.Statement.{statement}
+use Rattle.station.proofs.close.Tie as tie
+
+finish-requires : tie.Need-finish-requires
+finish-requires c κs = search needs
+
+say-requires : tie.Need-say-requires
+say-requires c κs = let a = c .before .before .before .before .before .before .args in let w = finish-wrote (a .session) _ _ (c .before .before .before .finish .ensures .0) in let l = ap length (c .before .before .before .finish .ensures .1) ∙ buffer-length (lastTurn (a .session) .text) (a .out .now) in omega (arith, w, l)
+
+same-length : tie.Need-same-length
+same-length c = search needs
+
+returns : tie.Need-returns
+returns c = search needs
+
+pub close-spec : {M : Type 1} → statement M
+close-spec = tie.close (tie.spec finish-requires say-requires same-length returns)
