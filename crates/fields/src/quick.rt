@@ -78,7 +78,7 @@ pub fn read_decimal_here(text: &[u8], at: usize, low: u64, high: u64) -> Field
     decimal_here(text, at, low, high)
 }
 
-// The value of a hex digit, 16 of any other byte.
+// The value of a hex digit, 16 of any other byte. The tests are nested so that the compiler takes sixteen bytes at once.
 fn nibble(b: u8) -> u8
     ensures { λ r. ⌜ r ≡ digitOf b ⌝ }
 {

@@ -9,10 +9,9 @@ use borrow.Author.Tests.{lt-ltb, le-ltb}
 use Rattle.units.specs.declared.refusal.Refusal.the-variants.{Room}
 use Rattle.units.specs.declared.refusal.Verdict.{Verdict}
 use Rattle.units.specs.Pick.{pick}
-use Rattle.fields.specs.declared.text.Scan.{Scan}
-use Rattle.fields.specs.Text.{scanned}
 use Rattle.fields.proofs.Cases.{by-lt}
-use Rattle.fields.proofs.Scans.{scan-within}
+use Rattle.fields.proofs.Texts.{until-short}
+use Rattle.lines.specs.declared.read.Line.{Line}
 use Rattle.lines.specs.declared.write.Written.{Written}
 use Rattle.lines.specs.declared.write.Written.the-variants.{Done, Refused}
 use Rattle.lines.specs.Writing.{answerOf, bufferOf}
@@ -21,7 +20,7 @@ use Rattle.session.specs.declared.feed.Session.{Session}
 use Rattle.session.specs.declared.stage.Core.{Core}
 use Rattle.session.specs.declared.stage.Stage.the-variants.{Ended}
 use Rattle.session.specs.declared.turn.Turned.{Turned}
-use Rattle.session.specs.Feeding.{Wrote, advancing, closed, shut, fed, fedText, feedAt, finished, holding, lastOf, lastTurn, lineIn, lineTurn}
+use Rattle.session.specs.Feeding.{Heard, Wrote, advancing, closed, shut, fed, fedText, feedAt, finished, holding, lastOf, lastTurn, lineAt, lineIn, lineTurn}
 use Rattle.session.specs.Turn.{Turn, settledIn, turnBy, verdictText}
 use Rattle.session.proofs.Room.{fed-holds, text-none, fed-line, text-line}
 use Rattle.session.proofs.Writes.{Puts, puts-none, puts-same}
@@ -33,28 +32,29 @@ shut-closed x end t r before after w = by-lt (length before) (length (t .text))
     (λ h. let e = lt-ltb (length before) (length (t .text)) h in rw (w .0, w .1, e))
     (λ h. let e = le-ltb (length before) (length (t .text)) h in rw (w .0, w .1, e))
 
-module _ (x : Session) (input : List ℕ) (s : Scan) (e : s ≡ scanned input) where
-  place : s .feed ≡ feedAt input
-  unfolding scanned
-  place = ap (λ k. k .feed) e
+-- the place of the first line feed is not past the input
+pub feed-within : (input : List ℕ) (n : ℕ) → n ≡ feedAt input → n ≤ length input
+feed-within input n e = let a = until-short 10 input in omega arith
 
-  -- the place of the line feed is not past the input
-  pub feed-within : s .feed ≤ length input
-  feed-within = let a = scan-within input in let b : s .feed ≡ scanned input .feed = ap (λ k. k .feed) e in omega arith
+module _ (x : Session) (input : List ℕ) (n : ℕ) (e : n ≡ feedAt input) where
+  pub feed-held : (r : Fed) (buf : List ℕ) → n ≡ length input → r ≡ holding x input → (r ≡ fed x input (length buf)) × (buf ≡ bufferOf (fedText x input) buf)
+  feed-held r buf k h =
+      let j = sym e ∙ k in
+      (h ∙ sym (fed-holds x input (length buf) j), puts-none buf .1 ∙ ap (λ t. bufferOf t buf) (sym (text-none x input j)))
 
-  pub feed-held : (r : Fed) (buf : List ℕ) → s .feed ≡ length input → r ≡ holding x input → (r ≡ fed x input (length buf)) × (buf ≡ bufferOf (fedText x input) buf)
-  feed-held r buf n h =
-      let k = sym place ∙ n in
-      (h ∙ sym (fed-holds x input (length buf) k), puts-none buf .1 ∙ ap (λ t. bufferOf t buf) (sym (text-none x input k)))
+  -- what was read is what the line says
+  pub feed-heard : (l : Line) → ((feedAt input ≡ length input → ⊥) → Heard (x .core) (lineAt (x .carry) input) l (x .core .stage)) → (n ≡ length input → ⊥)
+      → Heard (x .core) (lineIn (x .carry) (take (n + 1) input)) l (x .core .stage)
+  feed-heard l h k = subst (λ i. Heard (x .core) (lineIn (x .carry) (take (i + 1) input)) l (x .core .stage)) (sym e) (h (λ q. k (e ∙ q)))
 
-  pub feed-turned : (r : Fed) (t : Turned) (before after : List ℕ) → (s .feed ≡ length input → ⊥)
-      → Wrote (turnBy advancing (x .core) (lineIn (x .carry) (take (s .feed + 1) input)) (x .core .stage)) before after t → r ≡ shut x (s .feed + 1) (t .next) (t .written)
+  pub feed-turned : (r : Fed) (t : Turned) (before after : List ℕ) → (n ≡ length input → ⊥)
+      → Wrote (turnBy advancing (x .core) (lineIn (x .carry) (take (n + 1) input)) (x .core .stage)) before after t → r ≡ shut x (n + 1) (t .next) (t .written)
       → (r ≡ fed x input (length before)) × (after ≡ bufferOf (fedText x input) before)
-  feed-turned r t before after n w h =
-      let k : feedAt input ≡ length input → ⊥ = λ q. n (place ∙ q) in
-      let v : Wrote (lineTurn x input) before after t = subst (λ i. Wrote (turnBy advancing (x .core) (lineIn (x .carry) (take (i + 1) input)) (x .core .stage)) before after t) place w in (
-        h ∙ ap (λ i. shut x (i + 1) (t .next) (t .written)) place ∙ shut-closed x (feedAt input + 1) (lineTurn x input) t before after v ∙ sym (fed-line x input (length before) k),
-        v .2 ∙ ap (λ u. bufferOf u before) (sym (text-line x input k)),
+  feed-turned r t before after k w h =
+      let j : feedAt input ≡ length input → ⊥ = λ q. k (e ∙ q) in
+      let v : Wrote (lineTurn x input) before after t = subst (λ i. Wrote (turnBy advancing (x .core) (lineIn (x .carry) (take (i + 1) input)) (x .core .stage)) before after t) e w in (
+        h ∙ ap (λ i. shut x (i + 1) (t .next) (t .written)) e ∙ shut-closed x (feedAt input + 1) (lineTurn x input) t before after v ∙ sym (fed-line x input (length before) j),
+        v .2 ∙ ap (λ u. bufferOf u before) (sym (text-line x input j)),
       )
 
 -- the end of the input

@@ -17,6 +17,7 @@ use Rattle.lines.specs.Settling.{settleLine}
 use Rattle.session.specs.declared.stage.Core.{Core}
 use Rattle.session.specs.declared.stage.Stage.{Stage}
 use Rattle.session.specs.declared.stage.Stage.the-variants.{Settling as AtSettings, Waiting, Running, Ended}
+use Rattle.session.specs.Feeding.{Heard}
 use Rattle.session.specs.Turn.{Turn, quiet, refusing, settledIn, settlesTo, hears, waitsFor, groupIn, turnBy}
 
 module _ (c : Core) (next : Settling) {a : Told} where
@@ -58,3 +59,29 @@ module _ (go : Core → Message → Turn) (c : Core) (line : List ℕ) {s : Stag
   pub turn-ended : s ≡ Ended → turnBy go c line s ≡ quiet c
   unfolding turnBy
   turn-ended e = rw e
+
+-- a line as it was read
+module _ (c : Core) (text : List ℕ) (l : Line) {s : Stage} where
+  pub heard-settles : s ≡ AtSettings → Heard c text l s
+  unfolding Heard
+  heard-settles e = rw e tt
+
+  pub heard-ended : s ≡ Ended → Heard c text l s
+  unfolding Heard
+  heard-ended e = rw e tt
+
+  pub heard-waits : s ≡ Waiting → l ≡ readLine (groupIn c) text → Heard c text l s
+  unfolding Heard
+  heard-waits e h = rw e h
+
+  pub heard-runs : s ≡ Running → l ≡ readLine (groupIn c) text → Heard c text l s
+  unfolding Heard
+  heard-runs e h = rw e h
+
+  pub waits-heard : s ≡ Waiting → Heard c text l s → l ≡ readLine (groupIn c) text
+  unfolding Heard
+  waits-heard e h = rw e at h
+
+  pub runs-heard : s ≡ Running → Heard c text l s → l ≡ readLine (groupIn c) text
+  unfolding Heard
+  runs-heard e h = rw e at h

@@ -20,7 +20,9 @@ use Rattle.plan.specs.declared.planned.Sent.{Sent}
 use Rattle.plan.specs.declared.planned.Sent.the-variants.{Nothing, One}
 use Rattle.fields.specs.Put.{put, putEnd}
 use Rattle.fields.specs.Text.{lineFeed, until}
+use Rattle.lines.specs.declared.read.Line.{Line}
 use Rattle.lines.specs.declared.settle.Settling.{Settling}
+use Rattle.lines.specs.Reading.{readLine}
 use Rattle.lines.specs.declared.write.Written.{Written}
 use Rattle.lines.specs.declared.write.Written.the-variants.{Done, Refused as NotWritten}
 use Rattle.lines.specs.Writing.{spellLine, answerOf, bufferOf}
@@ -35,7 +37,7 @@ use Rattle.session.specs.declared.stage.Core.{Core}
 use Rattle.session.specs.declared.stage.Stage.{Stage}
 use Rattle.session.specs.declared.stage.Stage.the-variants.{Settling as AtSettings, Waiting, Running, Ended}
 use Rattle.session.specs.declared.turn.Turned.{Turned}
-use Rattle.session.specs.Turn.{Turn, numbersIn, coreStart, settledIn, runningWith, verdictText, turnBy}
+use Rattle.session.specs.Turn.{Turn, groupIn, numbersIn, coreStart, settledIn, runningWith, verdictText, turnBy}
 
 -- WHAT IS HELD of a line that has not ended: its first 601 bytes, enough to know that it is too long
 abbrev pub carryTop : ℕ
@@ -90,8 +92,18 @@ doneLength (NotWritten why) = 0
 abbrev pub feedAt : List ℕ → ℕ
 feedAt input = length (until lineFeed input)
 
+abbrev pub lineAt : Carry → List ℕ → List ℕ
+lineAt k input = lineIn k (take (feedAt input + 1) input)
+
 abbrev pub lineTurn : Session → List ℕ → Turn
-lineTurn x input = turnBy advancing (x .core) (lineIn (x .carry) (take (feedAt input + 1) input)) (x .core .stage)
+lineTurn x input = turnBy advancing (x .core) (lineAt (x .carry) input) (x .core .stage)
+
+-- a line as it was read, at the stages that read lines
+unfoldable pub Heard : Core → List ℕ → Line → Stage → Type 0
+Heard c text l AtSettings = Unit {0}
+Heard c text l Waiting = l ≡ readLine (groupIn c) text
+Heard c text l Running = l ≡ readLine (groupIn c) text
+Heard c text l Ended = Unit {0}
 
 -- the code's part of a turn: the next core, and what was written into a lent buffer
 abbrev pub Wrote : Turn → List ℕ → List ℕ → Turned → Type 0

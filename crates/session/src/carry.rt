@@ -1,15 +1,21 @@
 // What is held of a line that has not ended: its first 601 bytes, enough to know that it is too long.
 ghost use mathlib.Core.Path.{_≡_};
-ghost use lib.ListN.{take};
+ghost use lib.ListN.{length, take};
 ghost use Rattle.lines.specs.Reading.{readLine};
 ghost use Rattle.lines.specs.Settling.{settleLine};
-ghost use Rattle.session.specs.Feeding.{carryStart, emptied, held, lineIn};
+ghost use Rattle.session.specs.Feeding.{carryStart, emptied, feedAt, held, lineAt, lineIn};
 use fields::put_part;
+use fields::scan;
 use lines::Line;
+use lines::read::First;
 use lines::read::read;
+use lines::read::read_first;
 use lines::settle::Settled;
 use lines::settle::Settling;
+use message::Head;
+use message::Message;
 use units::Group;
+use units::Verdict;
 
 // The first `len` bytes count.
 pub struct Carry {
@@ -62,7 +68,7 @@ impl Carry {
 }
 
 // What a line of the first n bytes says.
-fn read_first(bytes: &[u8], n: usize, group: Group) -> Line
+fn read_part(bytes: &[u8], n: usize, group: Group) -> Line
     ensures { λ r. ⌜ r ≡ readLine group (take n (now (bytes .entry))) ⌝ }
 {
     if n < bytes.len() {
@@ -87,11 +93,11 @@ impl Carry {
         ensures { λ r. ⌜ r ≡ readLine group (lineIn self (take n (now (input .entry)))) ⌝ }
     {
         if self.len == 0 {
-            return read_first(input, n, group);
+            return read_part(input, n, group);
         }
         let whole = self.hold(input, n);
         let bytes = whole.bytes;
-        read_first(&bytes, whole.len, group)
+        read_part(&bytes, whole.len, group)
     }
 
     // The same of a line of the settings.
@@ -104,5 +110,44 @@ impl Carry {
         let whole = self.hold(input, n);
         let bytes = whole.bytes;
         take_first(settling, &bytes, whole.len)
+    }
+}
+
+// The place of the first line feed, where the line is not read here.
+pub(crate) fn unread(input: &[u8]) -> First
+    ensures { λ r. ⌜ r .feed ≡ feedAt (now (input .entry)) ⌝ }
+{
+    let seen = scan(input);
+    First {
+        line: Line {
+            verdict: Verdict::Taken,
+            message: Message::plain(Head::Refused { number: 0 }),
+        },
+        feed: seen.feed,
+    }
+}
+
+impl Carry {
+    // The line that ends in an input, and the place of its line feed; without one the line is not read.
+    fn first_on(self, input: &[u8], group: Group) -> First
+        ensures { λ r. ⌜ (r .feed ≡ feedAt (now (input .entry))) × ((feedAt (now (input .entry)) ≡ length (now (input .entry)) → ⊥) → r .line ≡ readLine group (lineAt self (now (input .entry)))) ⌝ }
+    {
+        let first = unread(input);
+        let feed = first.feed;
+        if feed == input.len() {
+            return first;
+        }
+        let line = self.read_on(input, feed + 1, group);
+        First { line, feed }
+    }
+
+    // The same, in one pass where nothing is held.
+    pub(crate) fn first(self, input: &[u8], group: Group) -> First
+        ensures { λ r. ⌜ (r .feed ≡ feedAt (now (input .entry))) × ((feedAt (now (input .entry)) ≡ length (now (input .entry)) → ⊥) → r .line ≡ readLine group (lineAt self (now (input .entry)))) ⌝ }
+    {
+        if self.len == 0 {
+            return read_first(input, group);
+        }
+        self.first_on(input, group)
     }
 }

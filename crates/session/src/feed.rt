@@ -8,7 +8,6 @@ use crate::carry::Carry;
 use crate::stage::Core;
 use crate::stage::Stage;
 use crate::turn::Turned;
-use fields::scan;
 use lines::settle::Settling;
 use lines::write::Written;
 use units::Refusal;
@@ -131,14 +130,15 @@ impl Session {
     pub fn feed(self, input: &[u8], out: &mut [u8]) -> Fed
         ensures { λ r. ⌜ (r ≡ fed self (now (input .entry)) (length (now (out .entry)))) × (now (out .exit) ≡ bufferOf (fedText self (now (input .entry))) (now (out .entry))) ⌝ }
     {
-        let seen = scan(input);
-        let feed = seen.feed;
+        let core = self.core;
+        let carry = self.carry;
+        let first = core.first(carry, input);
+        let feed = first.feed;
+        let line = first.line;
         if feed == input.len() {
             return self.hold(input);
         }
-        let core = self.core;
-        let carry = self.carry;
-        let turned = core.turn(carry, input, feed + 1, out);
+        let turned = core.turn(line, carry, input, feed + 1, out);
         self.close(turned, feed + 1)
     }
 

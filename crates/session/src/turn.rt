@@ -1,17 +1,19 @@
 // One whole line's turn: what the program is at next, and what it wrote.
 ghost use mathlib.Core.Path.{_≡_};
-ghost use lib.ListN.{take};
+ghost use lib.ListN.{length, take};
 ghost use Rattle.lines.specs.Writing.{answerOf, bufferOf};
-ghost use Rattle.session.specs.Feeding.{Wrote, advancing, lineIn};
+ghost use Rattle.session.specs.Feeding.{Heard, Wrote, advancing, feedAt, lineAt, lineIn};
 ghost use Rattle.session.specs.Turn.{hears, numbersIn, refusing, runningWith, settlesTo, turnBy, waitsFor};
 ghost use Rattle.lines.specs.declared.write.Written.{Written};
 ghost use Rattle.controller.specs.Start.{startOf};
 use crate::answer::put_answer;
 use crate::carry::Carry;
+use crate::carry::unread;
 use crate::stage::Core;
 use crate::stage::Stage;
 use controller::Controller;
 use lines::Line;
+use lines::read::First;
 use lines::settle::Answer as Told;
 use lines::settle::Settled;
 use lines::write::Written;
@@ -161,17 +163,39 @@ impl Core {
         }
     }
 
-    // The line that ends with the first n bytes of an input.
-    pub(crate) fn turn(self, carry: Carry, input: &[u8], n: usize, out: &mut [u8]) -> Turned
-        ensures { λ r. ⌜ Wrote (turnBy advancing self (lineIn carry (take n (now (input .entry)))) (self .stage)) (now (out .entry)) (now (out .exit)) r ⌝ }
+    // The line that ends in an input, read where lines are read, and the place of its line feed.
+    pub(crate) fn first(self, carry: Carry, input: &[u8]) -> First
+        ensures { λ r. ⌜ (r .feed ≡ feedAt (now (input .entry))) × ((feedAt (now (input .entry)) ≡ length (now (input .entry)) → ⊥) → Heard self (lineAt carry (now (input .entry))) (r .line) (self .stage)) ⌝ }
     {
         let stage = self.stage;
         let settling = self.settling;
         let group = settling.settings.numbers.group;
         match stage {
+            Stage::Settling => unread(input),
+            Stage::Waiting => carry.first(input, group),
+            Stage::Running => carry.first(input, group),
+            Stage::Ended => unread(input),
+        }
+    }
+
+    // The turn of the line that ends with the first n bytes of an input; `line` is what it says, where lines are read.
+    pub(crate) fn turn(
+        self,
+        line: Line,
+        carry: Carry,
+        input: &[u8],
+        n: usize,
+        out: &mut [u8],
+    ) -> Turned
+        requires { ⌜ Heard self (lineIn carry (take n (now input))) line (self .stage) ⌝ }
+        ensures { λ r. ⌜ Wrote (turnBy advancing self (lineIn carry (take n (now (input .entry)))) (self .stage)) (now (out .entry)) (now (out .exit)) r ⌝ }
+    {
+        let stage = self.stage;
+        let settling = self.settling;
+        match stage {
             Stage::Settling => self.settle(carry.take_on(settling, input, n), out),
-            Stage::Waiting => self.wait(carry.read_on(input, n, group), out),
-            Stage::Running => self.run(carry.read_on(input, n, group), out),
+            Stage::Waiting => self.wait(line, out),
+            Stage::Running => self.run(line, out),
             Stage::Ended => self.quiet(),
         }
     }

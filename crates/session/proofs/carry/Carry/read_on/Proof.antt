@@ -6,31 +6,31 @@ use borrow.Author.Needs.{needs}
 use Rattle.session.proofs.carry.Carry.read_on.Statement.{statement}
 use Rattle.session.proofs.carry.Carry.read_on.Tie as tie
 
-read-first-requires : tie.Need-read-first-requires
-read-first-requires c κs = search needs
+read-part-requires : tie.Need-read-part-requires
+read-part-requires c κs = search needs
 
 returns : tie.Need-returns
-returns c = let a = c .before .before .before .before .args in c .read-first .ensures ∙ ap (readLine (a .group)) (sym (line-alone (a .self) _ (c .before .if1 .taken)))
+returns c = let a = c .before .before .before .before .args in c .read-part .ensures ∙ ap (readLine (a .group)) (sym (line-alone (a .self) _ (c .before .if1 .taken)))
 
 hold-requires : tie.Need-hold-requires
 hold-requires c κs = search needs
 
-slice-aggregate-read-first : tie.Need-slice-aggregate-read-first
-slice-aggregate-read-first c = search needs
+slice-aggregate-read-part : tie.Need-slice-aggregate-read-part
+slice-aggregate-read-part c = search needs
 
-read-first-requires-2 : tie.Need-read-first-requires-2
-read-first-requires-2 c κs = search needs
+read-part-requires-2 : tie.Need-read-part-requires-2
+read-part-requires-2 c κs = search needs
 
 returns-2 : tie.Need-returns-2
-returns-2 c = let a = c .before .before .before .before .before .before .before .args in c .read-first2 .ensures ∙ ap (readLine (a .group)) (sym (line-whole (a .self) _ _ (c .before .before .before .before .if1 .left) (c .before .before .before .hold .ensures)))
+returns-2 c = let a = c .before .before .before .before .before .before .before .args in c .read-part2 .ensures ∙ ap (readLine (a .group)) (sym (line-whole (a .self) _ _ (c .before .before .before .before .if1 .left) (c .before .before .before .hold .ensures)))
 
 pub read-on-spec : {M : Type 1} → statement M
 read-on-spec =
     tie.close
     (tie.spec
-    read-first-requires
+    read-part-requires
     returns
     hold-requires
-    slice-aggregate-read-first
-    read-first-requires-2
+    slice-aggregate-read-part
+    read-part-requires-2
     returns-2)

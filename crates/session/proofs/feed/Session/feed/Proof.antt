@@ -1,27 +1,27 @@
 -- `Session::feed` meets its contract. Assumes nothing.
 use native.Mathlib.Omega.{arith}
 use borrow.Author.Needs.{needs}
-use Rattle.session.proofs.Feeds.{feed-within, feed-held, feed-turned}
+use Rattle.session.proofs.Feeds.{feed-within, feed-held, feed-heard, feed-turned}
 use Rattle.session.proofs.feed.Session.feed.Statement.{statement}
 use Rattle.session.proofs.feed.Session.feed.Tie as tie
 
-scan-requires : tie.Need-scan-requires
-scan-requires c κs = search needs
+first-requires : tie.Need-first-requires
+first-requires c κs = search needs
 
 hold-requires : tie.Need-hold-requires
 hold-requires c κs = search needs
 
 returns : tie.Need-returns
-returns c = let a = c .before .before .before .before .before .args in feed-held (a .self) (a .input .now) _ (c .before .before .scan .ensures) _ (a .out .now) (c .before .if1 .taken) (c .hold .ensures)
+returns c = let a = c .before .before .before .before .before .before .before .before .args in feed-held (a .self) (a .input .now) _ (c .before .before .before .first .ensures .0) _ (a .out .now) (c .before .if1 .taken) (c .hold .ensures)
 
 add-turn : tie.Need-add-turn
-add-turn c = let a = c .before .before .before .before .before .before .args in omega (arith, feed-within (a .self) (a .input .now) _ (c .before .before .before .scan .ensures), c .before .before .if1 .left)
+add-turn c = let a = c .before .before .before .before .before .before .before .args in omega (arith, feed-within (a .input .now) _ (c .before .before .first .ensures .0), c .if1 .left)
 
 turn-requires : tie.Need-turn-requires
-turn-requires c κs = search needs
+turn-requires c κs = let a = c .before .before .before .before .before .before .before .before .args in feed-heard (a .self) (a .input .now) _ (c .before .before .before .first .ensures .0) _ (c .before .before .before .first .ensures .1) (c .before .if1 .left)
 
 add-close : tie.Need-add-close
-add-close c = let a = c .before .before .before .before .before .before .before .before .before .before .args in omega (arith, feed-within (a .self) (a .input .now) _ (c .before .before .before .before .before .before .before .scan .ensures), c .before .before .before .before .before .before .if1 .left)
+add-close c = let a = c .before .before .before .before .before .before .before .before .before .before .before .args in omega (arith, feed-within (a .input .now) _ (c .before .before .before .before .before .before .first .ensures .0), c .before .before .before .before .if1 .left)
 
 close-requires : tie.Need-close-requires
 close-requires c κs = search needs
@@ -30,13 +30,13 @@ same-length : tie.Need-same-length
 same-length c = search needs
 
 returns-2 : tie.Need-returns-2
-returns-2 c = let a = c .before .before .before .before .before .before .before .before .before .before .before .args in feed-turned (a .self) (a .input .now) _ (c .before .before .before .before .before .before .before .before .scan .ensures) _ _ (a .out .now) _ (c .before .before .before .before .before .before .before .if1 .left) (c .before .before .before .turn .ensures) (c .close .ensures)
+returns-2 c = let a = c .before .before .before .before .before .before .before .before .before .before .before .before .args in feed-turned (a .self) (a .input .now) _ (c .before .before .before .before .before .before .before .first .ensures .0) _ _ (a .out .now) _ (c .before .before .before .before .before .if1 .left) (c .before .before .before .turn .ensures) (c .close .ensures)
 
 pub feed-spec : {M : Type 1} → statement M
 feed-spec =
     tie.close
     (tie.spec
-    scan-requires
+    first-requires
     hold-requires
     returns
     add-turn

@@ -2,7 +2,7 @@
 use mathlib.Core.Path.{refl}
 use borrow.Author.Needs.{needs}
 use Rattle.session.proofs.Writes.{wrote-same, wrote-quiet}
-use Rattle.session.proofs.Turns.{turn-settles, turn-waits, turn-runs, turn-ended}
+use Rattle.session.proofs.Turns.{turn-settles, turn-waits, turn-runs, turn-ended, waits-heard, runs-heard}
 use Rattle.session.specs.Feeding.{advancing}
 use Rattle.session.proofs.stage.Core.turn.Statement.{statement}
 use Rattle.session.proofs.stage.Core.turn.Tie as tie
@@ -19,17 +19,11 @@ settle-requires c κs = search needs
 enum-told-2 : tie.Need-enum-told-2
 enum-told-2 c = search needs
 
-read-on-requires : tie.Need-read-on-requires
-read-on-requires c κs = search needs
-
 wait-requires : tie.Need-wait-requires
 wait-requires c κs = search needs
 
 enum-told-3 : tie.Need-enum-told-3
 enum-told-3 c = search needs
-
-read-on-requires-2 : tie.Need-read-on-requires-2
-read-on-requires-2 c κs = search needs
 
 run-requires : tie.Need-run-requires
 run-requires c κs = search needs
@@ -44,22 +38,22 @@ same-length : tie.Need-same-length
 same-length c = search needs
 
 returns : tie.Need-returns
-returns c = let a = c .before .before .before .before .before .before .before .before .before .before .before .args in wrote-same (a .out .now) (turn-settles advancing (a .self) _ _ (c .before .before .before .before .before .enum-told .given .1) (c .before .before .before .before .take-on .ensures)) (c .before .before .settle .ensures)
+returns c = let a = c .before .before .before .before .before .before .before .before .before .before .args in wrote-same (a .out .now) (turn-settles advancing (a .self) _ _ (c .before .before .before .before .before .enum-told .given .1) (c .before .before .before .before .take-on .ensures)) (c .before .before .settle .ensures)
 
 same-length-2 : tie.Need-same-length-2
 same-length-2 c = search needs
 
 returns-2 : tie.Need-returns-2
-returns-2 c = let a = c .before .before .before .before .before .before .before .before .before .before .before .args in wrote-same (a .out .now) (turn-waits advancing (a .self) _ _ (c .before .before .before .before .before .enum-told2 .given .1) (c .before .before .before .before .read-on .ensures)) (c .before .before .wait .ensures)
+returns-2 c = let a = c .before .before .before .before .before .before .before .before .before .args in wrote-same (a .out .now) (turn-waits advancing (a .self) _ (a .line) (c .before .before .before .before .enum-told2 .given .1) (waits-heard (a .self) _ (a .line) (c .before .before .before .before .enum-told2 .given .1) (c .before .before .before .before .before .before .before .before .before .pre))) (c .before .before .wait .ensures)
 
 same-length-3 : tie.Need-same-length-3
 same-length-3 c = search needs
 
 returns-3 : tie.Need-returns-3
-returns-3 c = let a = c .before .before .before .before .before .before .before .before .before .before .before .args in wrote-same (a .out .now) (turn-runs advancing (a .self) _ _ (c .before .before .before .before .before .enum-told3 .given .1) (c .before .before .before .before .read-on2 .ensures)) (c .before .before .run .ensures)
+returns-3 c = let a = c .before .before .before .before .before .before .before .before .before .args in wrote-same (a .out .now) (turn-runs advancing (a .self) _ (a .line) (c .before .before .before .before .enum-told3 .given .1) (runs-heard (a .self) _ (a .line) (c .before .before .before .before .enum-told3 .given .1) (c .before .before .before .before .before .before .before .before .before .pre))) (c .before .before .run .ensures)
 
 returns-4 : tie.Need-returns-4
-returns-4 c = let a = c .before .before .before .before .before .before .before .args in wrote-quiet _ _ (a .out .now) (turn-ended advancing (a .self) _ (c .before .enum-told4 .given .1)) refl (c .quiet .ensures)
+returns-4 c = let a = c .before .before .before .before .before .before .args in wrote-quiet _ _ (a .out .now) (turn-ended advancing (a .self) _ (c .before .enum-told4 .given .1)) refl (c .quiet .ensures)
 
 pub turn-spec : {M : Type 1} → statement M
 turn-spec =
@@ -69,10 +63,8 @@ turn-spec =
     take-on-requires
     settle-requires
     enum-told-2
-    read-on-requires
     wait-requires
     enum-told-3
-    read-on-requires-2
     run-requires
     enum-told-4
     quiet-requires
