@@ -39,18 +39,15 @@ use Rattle.session.specs.Demand.{saidBy, stepBy}
 use Rattle.session.specs.Feeding.{finished, lastTurn, sessionStart}
 use Rattle.session.specs.Pieces.{Feeds}
 use Rattle.session.specs.Station.{station}
-use Rattle.session.specs.Turn.{Turn, groupIn, answered, hears, turnBy, stepping, turn}
+use Rattle.session.specs.Turn.{Turn, groupIn, answered, turnBy, stepping, turn}
+use Rattle.session.proofs.Turns.{hears-taken}
 use Rattle.session.proofs.Sent.{sent-back}
 use Rattle.session.proofs.Whole.{whole}
 
 -- a running core's turn is a step
-hears-taken : (c : Core) (go : Message → Turn) (a : Message) (v : Verdict) → v ≡ Taken → hears go c a v ≡ go a
-unfolding hears
-hears-taken c go a v e = rw e
-
 turn-at : (c : Core) (line : List ℕ) (stage : Stage) → stage ≡ Running → readLine (groupIn c) line .verdict ≡ Taken → turnBy stepping c line stage ≡ answered c (stepBy c line)
 unfolding turnBy
-turn-at c line stage e t = rw e (hears-taken c (stepping c) (saidBy c line) (readLine (groupIn c) line .verdict) t)
+turn-at c line stage e t = rw e (hears-taken (stepping c) c (saidBy c line) t)
 
 pub turn-steps : (c : Core) (line : List ℕ) → c .stage ≡ Running → readLine (groupIn c) line .verdict ≡ Taken → turn c line ≡ answered c (stepBy c line)
 turn-steps c line e t = turn-at c line (c .stage) e t

@@ -20,7 +20,7 @@ use Rattle.session.specs.declared.feed.Session.{Session}
 use Rattle.session.specs.declared.stage.Core.{Core}
 use Rattle.session.specs.declared.stage.Stage.the-variants.{Ended}
 use Rattle.session.specs.declared.turn.Turned.{Turned}
-use Rattle.session.specs.Feeding.{Heard, Wrote, advancing, closed, shut, fed, fedText, feedAt, finished, holding, lastOf, lastTurn, lineAt, lineIn, lineTurn}
+use Rattle.session.specs.Feeding.{Heard, Wrote, advancing, closed, shut, fed, fedText, feedAt, finished, holding, lastOf, lastTurn, lineEnding, lineIn, lineTurn}
 use Rattle.session.specs.Turn.{Turn, settledIn, turnBy, verdictText}
 use Rattle.session.proofs.Room.{fed-holds, text-none, fed-line, text-line}
 use Rattle.session.proofs.Writes.{Puts, puts-none, puts-same}
@@ -43,7 +43,7 @@ module _ (x : Session) (input : List ℕ) (n : ℕ) (e : n ≡ feedAt input) whe
       (h ∙ sym (fed-holds x input (length buf) j), puts-none buf .1 ∙ ap (λ t. bufferOf t buf) (sym (text-none x input j)))
 
   -- what was read is what the line says
-  pub feed-heard : (l : Line) → ((feedAt input ≡ length input → ⊥) → Heard (x .core) (lineAt (x .carry) input) l (x .core .stage)) → (n ≡ length input → ⊥)
+  pub feed-heard : (l : Line) → ((feedAt input ≡ length input → ⊥) → Heard (x .core) (lineEnding (x .carry) input) l (x .core .stage)) → (n ≡ length input → ⊥)
       → Heard (x .core) (lineIn (x .carry) (take (n + 1) input)) l (x .core .stage)
   feed-heard l h k = subst (λ i. Heard (x .core) (lineIn (x .carry) (take (i + 1) input)) l (x .core .stage)) (sym e) (h (λ q. k (e ∙ q)))
 

@@ -92,11 +92,11 @@ doneLength (NotWritten why) = 0
 abbrev pub feedAt : List ℕ → ℕ
 feedAt input = length (until lineFeed input)
 
-abbrev pub lineAt : Carry → List ℕ → List ℕ
-lineAt k input = lineIn k (take (feedAt input + 1) input)
+abbrev pub lineEnding : Carry → List ℕ → List ℕ
+lineEnding k input = lineIn k (take (feedAt input + 1) input)
 
 abbrev pub lineTurn : Session → List ℕ → Turn
-lineTurn x input = turnBy advancing (x .core) (lineAt (x .carry) input) (x .core .stage)
+lineTurn x input = turnBy advancing (x .core) (lineEnding (x .carry) input) (x .core .stage)
 
 -- a line as it was read, at the stages that read lines
 unfoldable pub Heard : Core → List ℕ → Line → Stage → Type 0

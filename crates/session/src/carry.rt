@@ -3,7 +3,7 @@ ghost use mathlib.Core.Path.{_≡_};
 ghost use lib.ListN.{length, take};
 ghost use Rattle.lines.specs.Reading.{readLine};
 ghost use Rattle.lines.specs.Settling.{settleLine};
-ghost use Rattle.session.specs.Feeding.{carryStart, emptied, feedAt, held, lineAt, lineIn};
+ghost use Rattle.session.specs.Feeding.{carryStart, emptied, feedAt, held, lineEnding, lineIn};
 use fields::put_part;
 use fields::scan;
 use lines::Line;
@@ -130,7 +130,7 @@ pub(crate) fn unread(input: &[u8]) -> First
 impl Carry {
     // The line that ends in an input, and the place of its line feed; without one the line is not read.
     fn first_on(self, input: &[u8], group: Group) -> First
-        ensures { λ r. ⌜ (r .feed ≡ feedAt (now (input .entry))) × ((feedAt (now (input .entry)) ≡ length (now (input .entry)) → ⊥) → r .line ≡ readLine group (lineAt self (now (input .entry)))) ⌝ }
+        ensures { λ r. ⌜ (r .feed ≡ feedAt (now (input .entry))) × ((feedAt (now (input .entry)) ≡ length (now (input .entry)) → ⊥) → r .line ≡ readLine group (lineEnding self (now (input .entry)))) ⌝ }
     {
         let first = unread(input);
         let feed = first.feed;
@@ -143,7 +143,7 @@ impl Carry {
 
     // The same, in one pass where nothing is held.
     pub(crate) fn first(self, input: &[u8], group: Group) -> First
-        ensures { λ r. ⌜ (r .feed ≡ feedAt (now (input .entry))) × ((feedAt (now (input .entry)) ≡ length (now (input .entry)) → ⊥) → r .line ≡ readLine group (lineAt self (now (input .entry)))) ⌝ }
+        ensures { λ r. ⌜ (r .feed ≡ feedAt (now (input .entry))) × ((feedAt (now (input .entry)) ≡ length (now (input .entry)) → ⊥) → r .line ≡ readLine group (lineEnding self (now (input .entry)))) ⌝ }
     {
         if self.len == 0 {
             return read_first(input, group);

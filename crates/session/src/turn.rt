@@ -2,7 +2,7 @@
 ghost use mathlib.Core.Path.{_≡_};
 ghost use lib.ListN.{length, take};
 ghost use Rattle.lines.specs.Writing.{answerOf, bufferOf};
-ghost use Rattle.session.specs.Feeding.{Heard, Wrote, advancing, feedAt, lineAt, lineIn};
+ghost use Rattle.session.specs.Feeding.{Heard, Wrote, advancing, feedAt, lineEnding, lineIn};
 ghost use Rattle.session.specs.Turn.{hears, numbersIn, refusing, runningWith, settlesTo, turnBy, waitsFor};
 ghost use Rattle.lines.specs.declared.write.Written.{Written};
 ghost use Rattle.controller.specs.Start.{startOf};
@@ -165,7 +165,7 @@ impl Core {
 
     // The line that ends in an input, read where lines are read, and the place of its line feed.
     pub(crate) fn first(self, carry: Carry, input: &[u8]) -> First
-        ensures { λ r. ⌜ (r .feed ≡ feedAt (now (input .entry))) × ((feedAt (now (input .entry)) ≡ length (now (input .entry)) → ⊥) → Heard self (lineAt carry (now (input .entry))) (r .line) (self .stage)) ⌝ }
+        ensures { λ r. ⌜ (r .feed ≡ feedAt (now (input .entry))) × ((feedAt (now (input .entry)) ≡ length (now (input .entry)) → ⊥) → Heard self (lineEnding carry (now (input .entry))) (r .line) (self .stage)) ⌝ }
     {
         let stage = self.stage;
         let settling = self.settling;
