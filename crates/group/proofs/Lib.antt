@@ -10,6 +10,7 @@ pub mod Theorem
 pub mod Named
 pub mod Host
 pub mod Wire
+pub mod Stations
 pub mod Examples
 pub mod WireExamples
 pub mod Witnesses

@@ -3,6 +3,7 @@ pub mod World
 pub mod Premises
 pub mod Demand
 pub mod Wire
+pub mod Stations
 pub mod Scripts
 pub mod Examples
 pub mod Schedules

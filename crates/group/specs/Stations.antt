@@ -1,0 +1,122 @@
+-- A GROUP OF STATIONS: Wire.antt once more, with the station program in a controller's place. What is handed is a whole line, what comes of it is the program's `turn`.
+use Prim.Native.Nat.{ℕ}
+use mathlib.Core.Path.{_≡_}
+use mathlib.Core.List.{List, [], _∷_, _++_}
+use mathlib.Core.Option.{Option, none, some}
+use lib.Dec.{eqb}
+use Rattle.units.specs.declared.labels.RoundLabel.{RoundLabel}
+use Rattle.units.specs.declared.refusal.Verdict.{Verdict}
+use Rattle.units.specs.declared.refusal.Verdict.the-variants.{Taken, Refused as Denied}
+use Rattle.units.specs.declared.settings.Numbers.{Numbers}
+use Rattle.units.specs.Pick.{pick}
+use Rattle.message.specs.declared.head.Head.{Head}
+use Rattle.lines.specs.Reading.{readLine}
+use Rattle.controller.specs.declared.state.Controller.{Controller}
+use Rattle.session.specs.declared.stage.Core.{Core}
+use Rattle.session.specs.declared.stage.Stage.{Stage}
+use Rattle.session.specs.declared.stage.Stage.the-variants.{Settling as AtSettings, Waiting, Running, Ended}
+use Rattle.session.specs.Demand.{saidBy}
+use Rattle.session.specs.Station.{linesOf}
+use Rattle.session.specs.Turn.{numbersIn, groupIn, coreStart, turn}
+use Rattle.group.specs.World.{Mark, mark, confirms}
+use Rattle.group.specs.Premises.{Meters}
+use Rattle.group.specs.Wire.{Wire, KeptLine, readAs}
+
+-- the program of each number, none while it does not run; every line that any of them ever wrote, X among them, the last first
+pub record Stations : Type 0 where
+  pub up : ℕ → Option Core
+  pub sent : List (List ℕ)
+  pub stored : List Mark
+  pub confirmed : List Mark
+
+abbrev pub still : Stations
+still = record { up = λ i. none; sent = []; stored = []; confirmed = [] }
+
+-- `boot` starts a number's program anew, with the lines of its settings
+pub data Doing : Type 0 where
+  hand : ℕ → List ℕ → Doing
+  store : ℕ → RoundLabel → Doing
+  crash : ℕ → Doing
+  boot : ℕ → List (List ℕ) → Doing
+
+unfoldable pub seat : (ℕ → Option Core) → ℕ → Option Core → ℕ → Option Core
+seat up i c j = pick (eqb j i) c (up j)
+
+-- lines put ahead of those before, one by one
+unfoldable pub puts : List (List ℕ) → List (List ℕ) → List (List ℕ)
+puts [] before = before
+puts (l ∷ ls) before = puts ls (l ∷ before)
+
+-- where lines lead a program
+unfoldable pub led : Core → List (List ℕ) → Core
+led c [] = c
+led c (l ∷ ls) = led (turn c l .next) ls
+
+-- F that a running program reads confirms its label
+abbrev pub confirming : ℕ → Head → Verdict → Stage → List Mark
+confirming i head v AtSettings = []
+confirming i head v Waiting = []
+confirming i head Taken Running = confirms i head
+confirming i head (Denied why) Running = []
+confirming i head v Ended = []
+
+-- a line handed to a number whose program does not run is lost
+abbrev pub turned : Stations → ℕ → List ℕ → Option Core → Stations
+turned w i line none = w
+turned w i line (some c) =
+    record {
+      up = seat (w .up) i (some (turn c line .next));
+      sent = puts (linesOf (turn c line .text)) (w .sent);
+      stored = w .stored;
+      confirmed = confirming i (saidBy c line .head) (readLine (groupIn c) line .verdict) (c .stage) ++ w .confirmed;
+    }
+
+abbrev pub later : Stations → Doing → Stations
+later w (hand i line) = turned w i line (w .up i)
+later w (store i label) = record { up = w .up; sent = w .sent; stored = mark i label ∷ w .stored; confirmed = w .confirmed }
+later w (crash i) = record { up = seat (w .up) i none; sent = w .sent; stored = w .stored; confirmed = w .confirmed }
+later w (boot i lines) = record { up = seat (w .up) i (some (led coreStart lines)); sent = w .sent; stored = w .stored; confirmed = w .confirmed }
+
+-- ---- the wire that stations make
+-- before its first B a program has no controller
+abbrev pub controllerAt : Core → Stage → Option Controller
+controllerAt c AtSettings = none
+controllerAt c Waiting = none
+controllerAt c Running = some (c .controller)
+controllerAt c Ended = none
+
+abbrev pub controllerIn : Option Core → Option Controller
+controllerIn none = none
+controllerIn (some c) = controllerAt c (c .stage)
+
+-- the lines that can be read; X is none of them (`x-refused`, proofs/Stations.antt)
+abbrev pub keptIf : Verdict → List ℕ → List (List ℕ) → List (List ℕ)
+keptIf Taken l ls = l ∷ ls
+keptIf (Denied why) l ls = ls
+
+unfoldable pub spoken : Numbers → List (List ℕ) → List (List ℕ)
+spoken s [] = []
+spoken s (l ∷ ls) = keptIf (readLine (s .group) l .verdict) l (spoken s ls)
+
+abbrev pub wireIn : Numbers → Stations → Wire
+wireIn s w = record { up = λ i. controllerIn (w .up i); sent = spoken s (w .sent); stored = w .stored; confirmed = w .confirmed }
+
+-- ---- THE PREMISES: those of Wire.antt on a line that a program reads; nothing is asked of other lines
+abbrev pub Asked : Numbers → Meters → Stations → ℕ → List ℕ → Option Core → Type 0
+Asked s meters w i line none = Unit {0}
+Asked s meters w i line (some c) = readLine (s .group) line .verdict ≡ Taken → KeptLine meters (wireIn s w) i line (readAs s line)
+
+-- "one set of settings": the lines lead a new program to its first B, with the group's settings
+pub record Booted (s : Numbers) (c : Core) : Type 0 where
+  pub waits : c .stage ≡ Waiting
+  pub settings : numbersIn c ≡ s
+
+abbrev pub OnStation : Numbers → Meters → Stations → Doing → Type 0
+OnStation s meters w (hand i line) = Asked s meters w i line (w .up i)
+OnStation s meters w (store i label) = Unit {0}
+OnStation s meters w (crash i) = Unit {0}
+OnStation s meters w (boot i lines) = Booted s (led coreStart lines)
+
+pub data OnwardStations (s : Numbers) (meters : Meters) (w : Stations) : Stations → Type 0 where
+  here : OnwardStations s meters w w
+  next : {v : Stations} → OnwardStations s meters w v → (e : Doing) → OnStation s meters v e → OnwardStations s meters w (later v e)
