@@ -2,7 +2,7 @@
 use Prim.Native.Nat.{ℕ}
 use mathlib.Core.Path.{_≡_, refl, sym, ap, subst, _∙_}
 use mathlib.Core.Bool.{true, false}
-use mathlib.Core.List.{List, [], _∷_, _++_, append-nil, append-assoc}
+use mathlib.Core.List.{List, [], _∷_, _++_, append-nil, append-assoc, List·Memᴰ, List·Memᴰ·head, List·Memᴰ·tail, List·Memᴰ·cases-cons, List·Memᴰ·not-nil}
 use mathlib.Core.Logic.{_⊎_, inl, inr}
 use mathlib.Core.Option.{Option, none, some}
 use lib.Dec.{eqb, ltb}
@@ -59,7 +59,7 @@ use Rattle.group.specs.World.{Mark, put, confirms, begun, rising}
 use Rattle.group.specs.Premises.{Meters}
 use Rattle.group.specs.Wire.{Wire, silent, spelling, spelledBy, takes, afterwards, OnLine, OnwardLines, readAs, Demand3Lines}
 use Rattle.group.specs.Wire as Lines
-use Rattle.group.specs.Stations.{Stations, still, Doing, hand, store, crash, boot, seat, puts, led, confirming, turned, later, controllerAt, controllerIn, keptIf, spoken, wireIn, Asked, Booted, OnStation, OnwardStations, here, next}
+use Rattle.group.specs.Stations.{Stations, still, Doing, hand, store, crash, boot, seat, puts, led, confirming, turned, later, controllerAt, controllerIn, keptIf, spoken, wireIn, Asked, Booted, OnStation, OnwardStations, here, next, Demand3Stations}
 use Rattle.group.proofs.Wire.{demand3-lines}
 
 -- ---- X is never read
@@ -92,6 +92,24 @@ module _ (s : Numbers) where
   kept-none : (v : Verdict) (l : List ℕ) (ls : List (List ℕ)) → (v ≡ Taken → ⊥) → keptIf v l ls ≡ ls
   kept-none Taken l ls n = absurd (n refl)
   kept-none (Denied why) l ls n = refl
+
+  kept-first : (v : Verdict) (l : List ℕ) (ls : List (List ℕ)) (x : List ℕ) → v ≡ Taken → x ≡ l → List·Memᴰ x (keptIf v l ls)
+  kept-first Taken l ls x t e = List·Memᴰ·head e
+  kept-first (Denied why) l ls x t e = absurd-by (cc)
+
+  kept-rest : (v : Verdict) (l : List ℕ) (ls : List (List ℕ)) (x : List ℕ) → List·Memᴰ x ls → List·Memᴰ x (keptIf v l ls)
+  kept-rest Taken l ls x m = List·Memᴰ·tail m
+  kept-rest (Denied why) l ls x m = m
+
+  -- a written line that is read is among the spoken
+  pub in-spoken : (sent : List (List ℕ)) (x : List ℕ) → List·Memᴰ x sent → readLine (s .group) x .verdict ≡ Taken → List·Memᴰ x (spoken s sent)
+  unfolding spoken
+  in-spoken [] x m t = absurd (List·Memᴰ·not-nil m)
+  in-spoken (l ∷ sent) x m t =
+      elim (List·Memᴰ·cases-cons m) [
+        | inl e ↦ kept-first (readLine (s .group) l .verdict) l (spoken s sent) x (ap (λ (y : List ℕ). readLine (s .group) y .verdict) (sym e) ∙ t) e
+        | inr n ↦ kept-rest (readLine (s .group) l .verdict) l (spoken s sent) x (in-spoken sent x n t)
+      ]
 
   spoken-x : (why : Refusal) (old : List (List ℕ)) → spoken s (puts (linesOf (refusalLine why)) old) ≡ spoken s old
   unfolding spoken puts
@@ -344,9 +362,17 @@ module _ (s : Numbers) (meters : Meters) where
   unfolding spoken
   spoken-still = refl
 
-  -- DEMAND 3 OF WHAT STATIONS WRITE: every run of stations that keeps the premises, to w, and however it goes on, to v
-  pub demand3-stations : {w v : Stations} → OnwardStations s meters still w → OnwardStations s meters w v → Demand3Lines s meters (wireIn s w) (wireIn s v)
-  demand3-stations {w} {v} run on =
+  lines-demand : {w v : Stations} → OnwardStations s meters still w → OnwardStations s meters w v → Demand3Lines s meters (wireIn s w) (wireIn s v)
+  lines-demand {w} {v} run on =
       let a = follows (λ i. tt) run in
       let b = follows (a .1) on in
       demand3-lines s meters (subst (λ (x : Wire). OnwardLines s meters x (wireIn s w)) spoken-still (a .0)) (b .0)
+
+  -- DEMAND 3 OF WHAT STATIONS WRITE: every run of stations that keeps the premises, to w, and however it goes on, to v
+  pub demand3-stations : {w v : Stations} → OnwardStations s meters still w → OnwardStations s meters w v → Demand3Stations s meters w v
+  demand3-stations {w} {v} run on =
+      let d = lines-demand run on in
+      record {
+        right = λ x m t. d .right x (in-spoken s (w .sent) x m t);
+        same = λ x y m n t u. d .same x y (in-spoken s (w .sent) x m t) (in-spoken s (v .sent) y n u);
+      }

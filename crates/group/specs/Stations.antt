@@ -1,7 +1,7 @@
 -- A GROUP OF STATIONS: Wire.antt once more, with the station program in a controller's place. What is handed is a whole line, what comes of it is the program's `turn`.
 use Prim.Native.Nat.{ℕ}
 use mathlib.Core.Path.{_≡_}
-use mathlib.Core.List.{List, [], _∷_, _++_}
+use mathlib.Core.List.{List, [], _∷_, _++_, List·Memᴰ}
 use mathlib.Core.Option.{Option, none, some}
 use lib.Dec.{eqb}
 use Rattle.units.specs.declared.labels.RoundLabel.{RoundLabel}
@@ -9,8 +9,11 @@ use Rattle.units.specs.declared.refusal.Verdict.{Verdict}
 use Rattle.units.specs.declared.refusal.Verdict.the-variants.{Taken, Refused as Denied}
 use Rattle.units.specs.declared.settings.Numbers.{Numbers}
 use Rattle.units.specs.Pick.{pick}
+use Rattle.vote.specs.declared.digest.Digest.{Digest}
 use Rattle.message.specs.declared.head.Head.{Head}
+use Rattle.message.specs.declared.head.Head.the-variants.{Setpoints}
 use Rattle.lines.specs.Reading.{readLine}
+use Rattle.lines.specs.Writing.{spellLine}
 use Rattle.controller.specs.declared.state.Controller.{Controller}
 use Rattle.session.specs.declared.stage.Core.{Core}
 use Rattle.session.specs.declared.stage.Stage.{Stage}
@@ -20,7 +23,8 @@ use Rattle.session.specs.Station.{linesOf}
 use Rattle.session.specs.Turn.{numbersIn, groupIn, coreStart, turn}
 use Rattle.group.specs.World.{Mark, mark, confirms}
 use Rattle.group.specs.Premises.{Meters}
-use Rattle.group.specs.Wire.{Wire, KeptLine, readAs}
+use Rattle.group.specs.Demand.{Right}
+use Rattle.group.specs.Wire.{Wire, KeptLine, readAs, readAll, from}
 
 -- the program of each number, none while it does not run; every line that any of them ever wrote, X among them, the last first
 pub record Stations : Type 0 where
@@ -120,3 +124,12 @@ OnStation s meters w (boot i lines) = Booted s (led coreStart lines)
 pub data OnwardStations (s : Numbers) (meters : Meters) (w : Stations) : Stations → Type 0 where
   here : OnwardStations s meters w w
   next : {v : Stations} → OnwardStations s meters w v → (e : Doing) → OnStation s meters v e → OnwardStations s meters w (later v e)
+
+-- ---- WHAT DEMAND 3 SAYS of what stations write: of every line ever written that is read as an S
+pub record Demand3Stations (s : Numbers) (meters : Meters) (w v : Stations) : Type 0 where
+  -- it is right, by the lines D that are ever written
+  pub right : (x : List ℕ) → List·Memᴰ x (w .sent) → readLine (s .group) x .verdict ≡ Taken → (i : ℕ) (label : RoundLabel) (digest : Digest) → readAs s x .head ≡ Setpoints i label digest
+      → Right s meters (readAll s (spoken s (v .sent))) label digest (readAs s x .targets)
+  -- another of the same label, written at any time by any station, has the same bytes but for its sender
+  pub same : (x y : List ℕ) → List·Memᴰ x (w .sent) → List·Memᴰ y (v .sent) → readLine (s .group) x .verdict ≡ Taken → readLine (s .group) y .verdict ≡ Taken
+      → (i j : ℕ) (label : RoundLabel) (d e : Digest) → readAs s x .head ≡ Setpoints i label d → readAs s y .head ≡ Setpoints j label e → y ≡ spellLine (s .group) (from j label d (readAs s x))
