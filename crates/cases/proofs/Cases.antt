@@ -6,7 +6,6 @@ use mathlib.Core.Bool.{Bool, true, false, _&&_}
 use mathlib.Core.List.{List, [], _∷_}
 use lib.Count.{ones}
 use lib.Ieee.{fits, ofInt, ofBits, toBits, lt, le, add, sub, mul, div}
-use Rattle.units.specs.declared.refusal.Refusal.{Refusal}
 use Rattle.units.specs.Every.{every}
 use Rattle.units.specs.Pick.{pick}
 use Rattle.units.specs.Settings.{groupFits}

@@ -1,8 +1,8 @@
 -- The round of document 01's session: its settings, the state of a start, what was read, and the state and targets that come of it.
 use Prim.Native.Nat.{ℕ}
-use mathlib.Core.List.{List, [], _∷_, _++_}
+use mathlib.Core.List.{List, _∷_}
 use lib.ListN.{replicate}
-use lib.Ieee.{Float, binary64, ofBits}
+use lib.Ieee.{binary64, ofBits}
 use Rattle.units.specs.declared.labels.RoundLabel.{RoundLabel}
 use Rattle.units.specs.declared.labels.StateLabel.{StateLabel}
 use Rattle.units.specs.declared.estimate.Estimate.{Estimate}

@@ -1,14 +1,14 @@
 -- The controller's state: what a handler goes by, and what is in range.
 use Prim.Native.Nat.{ℕ}
 use mathlib.Core.Bool.{Bool, true, false, not, _&&_}
-use mathlib.Core.List.{List}
 use lib.Dec.{ltb}
 use lib.ListN.{getD}
 use Rattle.units.specs.declared.settings.Numbers.{Numbers}
 use Rattle.units.specs.Labels.{floorFits, stateLabelFits}
+use Rattle.units.specs.Limits.{controllersTop, runsTop, labelTop, rawTop, xTop, varianceTop, targetTop}
 use Rattle.units.specs.Mask.{maskEnd}
+use Rattle.floats.specs.Bits.{whole}
 use Rattle.floats.specs.Ranges.{stateFits}
-use Rattle.vote.specs.declared.digest.Digest.{Digest}
 use Rattle.vote.specs.declared.votes.Ballot.{Ballot}
 use Rattle.vote.specs.declared.votes.Ballot.the-variants.{Missing, Cast}
 use Rattle.vote.specs.declared.votes.Seat.{Seat}
@@ -20,6 +20,11 @@ use Rattle.plan.specs.declared.brief.Phase.{Phase}
 use Rattle.plan.specs.declared.brief.Phase.the-variants.{Idle, Collecting, Pending, Voting}
 use Rattle.plan.specs.Votes.{ownDigest}
 use Rattle.controller.specs.declared.state.Controller.{Controller}
+use Rattle.controller.specs.declared.state.Tops.{Tops}
+
+-- "the limits of labels, runs and floats as its constants"
+abbrev pub tops : Tops
+tops = record { controllers = controllersTop; runs = runsTop; label = labelTop; raw = rawTop; x = whole xTop; variance = whole varianceTop; target = whole targetTop }
 
 abbrev pub briefOf : Controller → Brief
 briefOf c = record { own = c .own; phase = c .phase; label = c .label; state = c .state; held = c .held }

@@ -4,6 +4,7 @@ use mathlib.Core.Bool.{Bool, not, _&&_}
 use mathlib.Core.List.{List}
 use lib.Bits.{bitAnd}
 use lib.ListN.{getD}
+use Rattle.units.specs.declared.labels.RoundLabel.{RoundLabel}
 use Rattle.units.specs.declared.refusal.Refusal.the-variants.{Range, Kind}
 use Rattle.units.specs.declared.refusal.Verdict.the-variants.{Refused as Denied}
 use Rattle.units.specs.declared.settings.Numbers.{Numbers}
@@ -20,11 +21,12 @@ use Rattle.message.specs.declared.value.Message.{Message}
 use Rattle.message.specs.Message.{messageFits}
 use Rattle.plan.specs.declared.brief.Phase.{Phase}
 use Rattle.plan.specs.declared.brief.Phase.the-variants.{Idle, Collecting, Pending, Voting}
+use Rattle.plan.specs.declared.planned.Change.{Change}
 use Rattle.plan.specs.declared.planned.Effect.{Effect}
 use Rattle.plan.specs.declared.planned.Effect.the-variants.{Keep, Go, Begin, Add, Merge, Adopt, Count, Issue, Restart}
 use Rattle.plan.specs.declared.planned.Plan.{Plan}
 use Rattle.plan.specs.declared.planned.Sent.the-variants.{Nothing}
-use Rattle.plan.specs.Plan.{refuse, does}
+use Rattle.plan.specs.Plan.{refuse, does, changeOf}
 use Rattle.plan.specs.Readings.{planReading, planQuery, planReply}
 use Rattle.plan.specs.States.{planAdvert, planUpdate, planSetpoints}
 use Rattle.plan.specs.Timers.{planDue, planEnds, planVotingEnds}
@@ -82,6 +84,10 @@ planned s c a (VotingEnds label) = planVotingEnds (briefOf c) label
 planned s c a (Floor label) = votePlan s c (planFloor (briefOf c) label)
 planned s c a (Start own floor) = does (Restart own floor)
 planned s c a (Refused number) = refuse Kind
+
+-- how much a reading changes
+abbrev pub readingChange : Controller → RoundLabel → ℕ → ℕ → Change
+readingChange c label run raw = changeOf (planReading (briefOf c) (getD (c .readings) run 0) label run raw .effect)
 
 unfoldable pub inputsFit : Numbers → Controller → Message → Bool
 inputsFit s c a = numbersFit s && controllerFits s c && messageFits (s .group) a

@@ -104,12 +104,15 @@ impl Controller {
         }
     }
 
-    fn add(self, run: usize, raw: u32) -> Controller
+    // One reading more, put where it belongs.
+    pub fn add(mut self, run: usize, raw: u32) -> Controller
         ensures { λ r. ⌜ r ≡ added self run raw ⌝ }
     {
-        let readings = self.readings;
-        let next = put_reading(readings, run, raw);
-        self.holding(self.held | run_bit(run), next)
+        if run < Controller::RUNS {
+            self.readings[run] = raw;
+        }
+        self.held = self.held | run_bit(run);
+        self
     }
 
     fn merge(self, mask: u32, new: [u32; 16]) -> Controller

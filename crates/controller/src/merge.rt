@@ -1,6 +1,6 @@
 // Readings put together: whether two sets agree, one set added to another, and the part of a set that is asked for.
 ghost use mathlib.Core.Path.{_≡_};
-ghost use Rattle.controller.specs.Merge.{agreeAt, agreePlace, agrees, merged, mergedAt, runBit, selected};
+ghost use Rattle.controller.specs.Merge.{agreePlace, agrees, merged, mergedAt, runBit, selected};
 use crate::state::Controller;
 use units::mask::has;
 

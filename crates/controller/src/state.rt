@@ -1,6 +1,6 @@
 // The controller's state, and what is in range of it.
 ghost use mathlib.Core.Path.{_≡_};
-ghost use Rattle.controller.specs.State.{ballotAt, briefOf, cast, controllerFits, phaseFits};
+ghost use Rattle.controller.specs.State.{ballotAt, briefOf, cast, controllerFits, phaseFits, tops};
 use floats::ranges::state_in_range;
 use message::readings::readings_in_range;
 use plan::Brief;
@@ -28,6 +28,17 @@ pub struct Controller {
     pub votes: [Seat; 7],
 }
 
+// The largest of each quantity that a controller has a limit for.
+pub struct Tops {
+    pub controllers: usize,
+    pub runs: usize,
+    pub label: u32,
+    pub raw: u32,
+    pub x: f64,
+    pub variance: f64,
+    pub target: f64,
+}
+
 impl Controller {
     pub const CONTROLLERS: usize = limits::CONTROLLERS;
 
@@ -42,6 +53,21 @@ impl Controller {
     pub const VARIANCE_TOP: f64 = limits::VARIANCE_TOP;
 
     pub const TARGET_TOP: f64 = limits::TARGET_TOP;
+
+    // The constants as a value, so that what they are is promised.
+    pub fn tops() -> Tops
+        ensures { λ r. ⌜ r ≡ tops ⌝ }
+    {
+        Tops {
+            controllers: Controller::CONTROLLERS,
+            runs: Controller::RUNS,
+            label: Controller::LABEL_TOP,
+            raw: Controller::RAW_TOP,
+            x: Controller::X_TOP,
+            variance: Controller::VARIANCE_TOP,
+            target: Controller::TARGET_TOP,
+        }
+    }
 
     // The part that a handler goes by.
     pub fn brief(self) -> Brief

@@ -2,13 +2,14 @@
 ghost use mathlib.Core.Path.{_≡_};
 ghost use lib.ListN.{getD};
 ghost use Rattle.floats.specs.Ranges.{sameState};
-ghost use Rattle.controller.specs.Step.{carriedOut, clashing, decided, inputsFit, judgedIn, judgedPlan, planned, stepped};
+ghost use Rattle.controller.specs.Step.{carriedOut, clashing, decided, inputsFit, judgedIn, judgedPlan, planned, readingChange, stepped};
 use crate::apply::put_vote;
 use crate::merge::readings_agree;
 use crate::state::Controller;
 use floats::same::same_state;
 use message::Head;
 use message::Message;
+use plan::Change;
 use plan::Effect;
 use plan::Phase;
 use plan::Plan;
@@ -18,6 +19,7 @@ use plan::planned::refusal;
 use units::Estimate;
 use units::Numbers;
 use units::Refusal;
+use units::RoundLabel;
 use units::Verdict;
 use vote::Decision;
 use vote::Digest;
@@ -127,8 +129,17 @@ impl Controller {
         same_state(theirs, ours)
     }
 
+    // How much a reading changes.
+    pub fn reading_change(self, label: RoundLabel, run: usize, raw: u32) -> Change
+        ensures { λ r. ⌜ r ≡ readingChange self label run raw ⌝ }
+    {
+        let plan = self.brief().on_reading(self.reading(run), label, run, raw);
+        let effect = plan.effect;
+        effect.change()
+    }
+
     // What the message leads to.
-    fn plan(self, numbers: Numbers, message: Message) -> Plan
+    pub fn plan(self, numbers: Numbers, message: Message) -> Plan
         ensures { λ r. ⌜ r ≡ planned numbers self message (message .head) ⌝ }
     {
         let head = message.head;

@@ -17,6 +17,7 @@ use Rattle.units.specs.Labels.{roundFits}
 use Rattle.units.specs.Limits.{controllersTop, rawTop}
 use Rattle.units.specs.Mask.{inMask}
 use Rattle.units.proofs.Every.{and-left, and-right, every-at}
+use Rattle.units.proofs.Masks.{no-run}
 use Rattle.vote.specs.declared.digest.Digest.{Digest}
 use Rattle.vote.specs.declared.votes.Ballot.{Ballot}
 use Rattle.vote.specs.declared.votes.Ballot.the-variants.{Missing, Cast}
@@ -25,6 +26,7 @@ use Rattle.message.specs.declared.head.Head.{Head}
 use Rattle.message.specs.declared.head.Head.the-variants.{Reading, Reply, Vote, Setpoints, Floor}
 use Rattle.message.specs.declared.value.Message.{Message}
 use Rattle.message.specs.Head.{headFits}
+use Rattle.message.proofs.Ranges.{readings-length}
 use Rattle.plan.specs.declared.brief.Phase.{Phase}
 use Rattle.plan.specs.declared.brief.Phase.the-variants.{Pending}
 use Rattle.plan.specs.declared.planned.Effect.{Effect}
@@ -51,7 +53,7 @@ use Rattle.controller_laws.specs.Ways.Votes.{another's, ours}
 use Rattle.controller_laws.specs.Ways.Leads.{refused, unchanged, begins, adds, replies, merges, updates, adopts-idle, adopts-before, adopts-past, asks, adverts, asks-and-adverts, collected, lapses, counts, open-still, behind, lacking, issues, restarts}
 use Rattle.controller_laws.specs.Ways.Goes.{out, led}
 use Rattle.controller_laws.proofs.Fits.{inputs}
-use Rattle.controller_laws.proofs.Held.{empty-mask, merged-place, readings-length}
+use Rattle.controller_laws.proofs.Held.{merged-place}
 use Rattle.controller_laws.proofs.Masks.{in-and, in-or, not-in-run}
 use Rattle.controller_laws.proofs.Rises.{same-effect}
 use Rattle.controller_laws.proofs.Valid.{sized, Own, phase-own, Valid}
@@ -173,7 +175,7 @@ module _ (s : Numbers) (c : Controller) (a : Message) (i : ℕ) (k : i < 16) whe
     came (behind w d b) u f q = was-held refl q refl
     came (lacking w d b g) u f q = was-held refl q refl
     came (issues w d b g) u f q = subst (λ (e : Effect). inMask (applied s a c e .held) i ≡ true → From e) (sym (same-effect _ _ _)) (λ z. was-held refl z refl) q
-    came restarts u f q = never q (empty-mask i)
+    came restarts u f q = never q (no-run i)
 
   -- "M and R readings are never altered": a reading held after a step was held for the same label, or the message said it
   pub readings-from : inMask (stepped s c a .next .held) i ≡ true → ReadingFrom c a (stepped s c a .next) i
@@ -193,14 +195,14 @@ none-cast zero i = refl
 none-cast (suc n) zero = refl
 none-cast (suc n) (suc i) = none-cast n i
 
-not-missing : {A : Type 0} {d : Digest} → Missing ≡ Cast d → A
+pub not-missing : {A : Type 0} {d : Digest} → Missing ≡ Cast d → A
 not-missing p = let z : _≡_ {A = ℕ} 0 1 = cc in absurd (omega arith)
 
 -- a start holds no vote
 pub no-vote : {A : Type 0} (i : ℕ) {d : Digest} → getD (replicate controllersTop nobody) i nobody .ballot ≡ Cast d → A
 no-vote i h = not-missing (sym (ap (λ (x : Seat). x .ballot) (none-cast controllersTop i)) ∙ h)
 
-same-digest : {d e : Digest} → Cast d ≡ Cast e → d ≡ e
+pub same-digest : {d e : Digest} → Cast d ≡ Cast e → d ≡ e
 same-digest p = cc
 
 -- a vote among the seats after one was put in: that one, or one that was there

@@ -47,7 +47,7 @@ use Rattle.controller.specs.State.{briefOf, ballotAt}
 use Rattle.controller.specs.Step.{judgedIn, judgedPlan, votePlan, clashing, planned, inputsFit, stepped}
 use Rattle.controller_laws.specs.Outcomes.{Clashed}
 use Rattle.controller_laws.specs.Outcomes.Clashed.{by-reading, by-reply, by-update, by-digest}
-use Rattle.controller_laws.proofs.Ways.{on-pick, same-round}
+use Rattle.controller_laws.proofs.Ways.{on-pick, same-round, same-state}
 
 module _ (s : Numbers) (c : Controller) (a : Message) where
   -- where a plan says 11, the message clashes
@@ -115,9 +115,6 @@ module _ (s : Numbers) (c : Controller) (a : Message) where
   unfolding planAdvert
   advert-so sender other = theirs _ sender (on-pick (So _) (ltb (other .0) (c .state .0)) (λ _. calm refl) (λ _. calm refl))
 
-  same-label : (l k : StateLabel) → l .0 ≡ k .0 → l ≡ k
-  same-label l k e = λ i. record { 0 = e i }
-
   adopted-so : (sender : ℕ) (other : StateLabel) (phase : Phase) → So (Update sender other) (adopted (briefOf c) other (sameState (a .estimates) (c .estimates)) phase)
   unfolding adopted
   adopted-so sender other phase =
@@ -125,7 +122,7 @@ module _ (s : Numbers) (c : Controller) (a : Message) where
       (λ e. on-pick (So _) (ltb (other .0) (c .state .0)) (λ _. calm refl)
       (λ k. on-pick (So _) (sameState (a .estimates) (c .estimates)) (λ _. calm refl)
       (λ n. so (λ q. subst (λ (l : StateLabel). Clashed c a (Update sender l))
-      (same-label (c .state) other (omega (arith, ltb-false (c .state .0) (other .0) e, ltb-false (other .0) (c .state .0) k))) (by-update n)))))
+      (same-state (c .state) other (omega (arith, ltb-false (c .state .0) (other .0) e, ltb-false (other .0) (c .state .0) k))) (by-update n)))))
 
   update-so : (sender : ℕ) (other : StateLabel) (phase : Phase) → So (Update sender other) (inUpdate (briefOf c) other (sameState (a .estimates) (c .estimates)) phase)
   unfolding inUpdate

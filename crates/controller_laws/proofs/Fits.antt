@@ -22,7 +22,7 @@ use Rattle.units.specs.Limits.{runsTop, rawTop, xTop, varianceTop}
 use Rattle.units.specs.Mask.{maskEnd, maskFits}
 use Rattle.units.specs.Pick.{pick}
 use Rattle.units.specs.Settings.{groupFits, numbersFit}
-use Rattle.units.proofs.Every.{and-left, and-right}
+use Rattle.units.proofs.Every.{and-left, and-right, and-three}
 use Rattle.units.proofs.Masks.{some-mask}
 use Rattle.floats.specs.Ranges.{estimateFits, noEstimate, stateFits, targetsFit}
 use Rattle.floats.proofs.Limits.{whole-range, nought-range}
@@ -112,9 +112,6 @@ told s a h =
     (targetsFit (carried s (a .head) .targets) (a .targets)) h in
     record { head = q .1; readings = q .2; estimates = q .3 }
 
-three : (a b c : Bool) → (a && b && c) ≡ true → (a ≡ true) × (b ≡ true) × (c ≡ true)
-three a b c p = let q = and-left (a && b) c p in (and-left a b q, and-right a b q, and-right (a && b) c p)
-
 -- ---- the effects
 module _ (s : Numbers) (c : Controller) (fit : numbersFit s ≡ true) (v : Valid s c) where
   abbrev m : ℕ
@@ -145,7 +142,7 @@ module _ (s : Numbers) (c : Controller) (fit : numbersFit s ≡ true) (v : Valid
   begun-valid : (label : RoundLabel) (run raw : ℕ) → headFits (s .group) (Reading label run raw) ≡ true → c .state .0 < label .0 → Valid s (begun c label run raw)
   unfolding headFits
   begun-valid label run raw h l =
-      let q = three (roundFits label) (ltb run m) (leb raw rawTop) h in
+      let q = and-three (roundFits label) (ltb run m) (leb raw rawTop) h in
       let r = ltb-true run m (q .1) in
       let z = sized s fit in
       let r′ : run < 16 = omega (arith, z .m-high) in
@@ -187,7 +184,7 @@ module _ (s : Numbers) (c : Controller) (fit : numbersFit s ≡ true) (v : Valid
   added-valid : (label : RoundLabel) (run raw : ℕ) → headFits (s .group) (Reading label run raw) ≡ true → c .phase ≡ Collecting → Valid s (added c run raw)
   unfolding headFits
   added-valid label run raw h e =
-      let q = three (roundFits label) (ltb run m) (leb raw rawTop) h in
+      let q = and-three (roundFits label) (ltb run m) (leb raw rawTop) h in
       let r = ltb-true run m (q .1) in
       let z = sized s fit in
       let r′ : run < 16 = omega (arith, z .m-high) in
@@ -198,7 +195,7 @@ module _ (s : Numbers) (c : Controller) (fit : numbersFit s ≡ true) (v : Valid
   merged-valid : (sender mask : ℕ) (new : List ℕ) → headFits (s .group) (Reply sender (c .label) mask) ≡ true → readingsFit mask new ≡ true → c .phase ≡ Collecting → Valid s (mergedIn c mask new)
   unfolding headFits
   merged-valid sender mask new h f e =
-      let q = three (ltb sender (s .group .g)) (roundFits (c .label)) (maskFits m mask) h in
+      let q = and-three (ltb sender (s .group .g)) (roundFits (c .label)) (maskFits m mask) h in
       holds-valid (bitOr (c .held) mask) (merged mask new (c .readings)) e (or-above (c .held) mask)
       (or-below m (c .held) mask (sized s fit .m-high) (v .held) (ltb-true _ _ (and-right (leb 1 mask) _ (q .2))))
       (merged-fit mask new f (c .held) (c .readings) (v .readings))
@@ -268,10 +265,10 @@ module _ (s : Numbers) (c : Controller) (fit : numbersFit s ≡ true) (v : Valid
       (getD-set-same (c .votes) (c .own) (record { ballot = Cast digest }) nobody (omega (arith, seats-length (s .group) (c .label) (c .votes) (v .votes), v .own, sized s fit .g-high)))
 
   -- the seat of the group and the legal digest of a vote that is taken in
-  pub vote-fits : {h : Head} {seat : ℕ} {digest : Digest} {first : Sent} → Votes c h seat digest first → headFits (s .group) h ≡ true → (seat < s .group .g) × (legal m (c .label) digest ≡ true)
+  vote-fits : {h : Head} {seat : ℕ} {digest : Digest} {first : Sent} → Votes c h seat digest first → headFits (s .group) h ≡ true → (seat < s .group .g) × (legal m (c .label) digest ≡ true)
   unfolding headFits
   vote-fits (another's {sender} {digest} n e f) h =
-      let q = three (ltb sender (s .group .g)) (roundFits (c .label)) (legal m (c .label) digest) h in (ltb-true _ _ (q .0), q .2)
+      let q = and-three (ltb sender (s .group .g)) (roundFits (c .label)) (legal m (c .label) digest) h in (ltb-true _ _ (q .0), q .2)
   vote-fits (ours e) h = (v .own, own-legal (rw e tt))
 
   voting-own : {h : Head} {seat : ℕ} {digest : Digest} {first : Sent} → Votes c h seat digest first → Busy (c .phase) × Own Voting (getD (seated (c .votes) seat digest) (c .own) nobody .ballot)
@@ -286,7 +283,7 @@ module _ (s : Numbers) (c : Controller) (fit : numbersFit s ≡ true) (v : Valid
     issued chosen head (another's {sender} {digest} n e f) h = let q = vote-fits (another's {sender = sender} {digest = digest} n e f) h in issuing-valid sender digest chosen (q .0) (q .1)
     issued chosen head (ours e) h = let q = vote-fits (ours e) h in issuing-valid (c .own) (ownDigest (briefOf c)) chosen (q .0) (q .1)
 
-    pub way-valid : {h : Head} {p : Plan} → Leads s c a h p → Told (s .group) a h → Valid s (applied s a c (p .effect))
+    way-valid : {h : Head} {p : Plan} → Leads s c a h p → Told (s .group) a h → Valid s (applied s a c (p .effect))
     unfolding applied carried headFits
     way-valid (refused why e) t = v
     way-valid unchanged t = v
@@ -304,7 +301,7 @@ module _ (s : Numbers) (c : Controller) (fit : numbersFit s ≡ true) (v : Valid
     way-valid (collected e) t = go-valid Pending (λ b. rw e tt) (own-vote Collecting e)
     way-valid (lapses e) t = go-valid Idle (λ b. absurd b) tt
     way-valid (counts {sender} {digest} n e f) t =
-        let q = three (ltb sender (s .group .g)) (roundFits (c .label)) (legal m (c .label) digest) (t .head) in
+        let q = and-three (ltb sender (s .group .g)) (roundFits (c .label)) (legal m (c .label) digest) (t .head) in
         counted-valid sender digest (c .phase) (ltb-true _ _ (q .0)) (q .2) (λ b. b) (subst (Own (c .phase)) (others-seat sender digest n) (own-vote (c .phase) refl))
     way-valid (open-still {seat = seat} {digest = digest} w n) t = let q = vote-fits w (t .head) in let r = voting-own w in counted-valid seat digest Voting (q .0) (q .1) (λ b. r .0) (r .1)
     way-valid (behind {seat = seat} {digest = digest} w d n) t = let q = vote-fits w (t .head) in counted-valid seat digest Idle (q .0) (q .1) (λ b. absurd b) tt
@@ -321,7 +318,7 @@ pub record Inputs (s : Numbers) (c : Controller) (a : Message) : Type 0 where
 pub inputs : (s : Numbers) (c : Controller) (a : Message) → inputsFit s c a ≡ true → Inputs s c a
 unfolding inputsFit
 inputs s c a h =
-    let q = three (numbersFit s) (controllerFits s c) (messageFits (s .group) a) h in
+    let q = and-three (numbersFit s) (controllerFits s c) (messageFits (s .group) a) h in
     record { numbers = q .0; valid = valid-facts s c (q .1); message = told (s .group) a (q .2) }
 
 -- a controller in range is in range after any step, whatever the settings and the message
@@ -338,5 +335,5 @@ unfolding started pick
 started-fits s own floor = tested (numbersFit s && ltb own (s .group .g) && floorFits floor) refl
   where
     tested : (b : Bool) → (numbersFit s && ltb own (s .group .g) && floorFits floor) ≡ b → pick b Taken (Denied Range) ≡ Taken → controllerFits s (startOf s own floor) ≡ true
-    tested true e h = let q = three (numbersFit s) (ltb own (s .group .g)) (floorFits floor) e in start-fits s own floor (q .0) (q .1) (q .2)
+    tested true e h = let q = and-three (numbersFit s) (ltb own (s .group .g)) (floorFits floor) e in start-fits s own floor (q .0) (q .1) (q .2)
     tested false e h = let z : _≡_ {A = ℕ} 0 1 = cc in absurd (omega arith)

@@ -1,50 +1,32 @@
 -- Readings beside their mask stay in range: none, one, one more, two sets put together, and those asked for. Assumes nothing.
-use Prim.Native.Nat.{ℕ, _%_, _≤_, _<_}
+use Prim.Native.Nat.{ℕ, _≤_, _<_}
 use native.Mathlib.Omega.{arith}
 use native.Mathlib.Decide.{ℕ-discrete}
-use native.Mathlib.Nat.{zero-add, div-eq-of-lt}
+use native.Mathlib.Nat.{zero-add}
 use mathlib.Core.Path.{_≡_, refl, sym, ap, ap₂, subst, _∙_}
 use mathlib.Core.Bool.{Bool, true, false, _&&_, _||_, or-true, or-false}
 use mathlib.Core.List.{List}
 use mathlib.Core.Logic.{by-cases}
 use lib.Bits.{bitAnd, bitOr}
-use lib.Dec.{eqb}
 use lib.ListN.{length, getD, set, replicate, length-set, getD-replicate}
-use lib.Pow.{pow-pos}
 use lib.Seq.{getD-set-same, getD-set-other}
-use borrow.Author.Tests.{eqb-true, eq-eqb, le-leb}
+use borrow.Author.Tests.{le-leb}
 use Rattle.units.specs.Limits.{rawTop}
 use Rattle.units.specs.Mask.{inMask}
-use Rattle.units.proofs.Every.{and-left, and-right, every-at, every-all}
+use Rattle.units.proofs.Masks.{no-run}
 use Rattle.filter.proofs.Tab.{length-tab, getD-tab}
 use Rattle.message.specs.Readings.{readingPlace, readingAt, readingsFit}
+use Rattle.message.proofs.Ranges.{readings-length, readings-place, readings-made}
 use Rattle.controller.specs.Merge.{runBit, mergedAt, merged, selected}
 use Rattle.controller_laws.proofs.Masks.{in-and, in-or, in-run, not-in-run}
-
--- ---- what it says that readings are in range
-module _ (mask : ℕ) (readings : List ℕ) where
-  pub readings-length : readingsFit mask readings ≡ true → length readings ≡ 16
-  unfolding readingsFit
-  readings-length h = eqb-true _ _ (and-left (eqb (length readings) 16) _ h)
-
-  pub readings-place : readingsFit mask readings ≡ true → (i : ℕ) → i < 16 → readingAt mask readings i ≡ true
-  unfolding readingsFit
-  readings-place h i k = every-at (readingAt mask readings) 16 i (and-right (eqb (length readings) 16) _ h) k
-
-  pub readings-made : length readings ≡ 16 → ((i : ℕ) → i < 16 → readingAt mask readings i ≡ true) → readingsFit mask readings ≡ true
-  unfolding readingsFit
-  readings-made e f = rw (eq-eqb (length readings) 16 e, every-all (readingAt mask readings) 16 f)
 
 -- a place is in range by what it holds and by whether it is in the mask
 placed : {t u : Bool} {x y : ℕ} → t ≡ u → x ≡ y → readingPlace u y ≡ true → readingPlace t x ≡ true
 placed p q h = ap₂ readingPlace p q ∙ h
 
 -- ---- none
-pub empty-mask : (i : ℕ) → inMask 0 i ≡ false
-empty-mask i = ap (λ (n : ℕ). eqb (n % 2) 1) (div-eq-of-lt (pow-pos i))
-
 pub none-fit : readingsFit 0 (replicate 16 0) ≡ true
-none-fit = readings-made 0 (replicate 16 0) refl (λ i k. placed (empty-mask i) (getD-replicate 16 i 0 0 k) refl)
+none-fit = readings-made 0 (replicate 16 0) refl (λ i k. placed (no-run i) (getD-replicate 16 i 0 0 k) refl)
 
 -- ---- one more; of none, that is one
 module _ (mask : ℕ) (readings : List ℕ) (fit : readingsFit mask readings ≡ true) (run raw : ℕ) (r : run < 16) (h : raw ≤ rawTop) where
@@ -65,7 +47,7 @@ module _ (mask : ℕ) (readings : List ℕ) (fit : readingsFit mask readings ≡
           (getD-set-other readings run i raw 0 n) (readings-place mask readings fit i k))
 
 -- ---- put together
-pub merged-length : (mask : ℕ) (new old : List ℕ) → length (merged mask new old) ≡ 16
+merged-length : (mask : ℕ) (new old : List ℕ) → length (merged mask new old) ≡ 16
 unfolding merged
 merged-length mask new old = length-tab (λ (i : ℕ). mergedAt (inMask mask i) (getD new i 0) (getD old i 0)) 0 16
 

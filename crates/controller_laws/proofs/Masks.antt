@@ -50,7 +50,7 @@ all-single = refl
 single-at : (run i : ℕ) → run < 16 → i < 16 → single run i ≡ true
 single-at run i r k = every-at (single run) 16 i (every-at (λ (n : ℕ). every (single n) 16) 16 run all-single r) k
 
-pub run-bit-is : (run : ℕ) → run < 16 → runBit run ≡ 2 ^ run
+run-bit-is : (run : ℕ) → run < 16 → runBit run ≡ 2 ^ run
 unfolding runBit pick
 run-bit-is run h = rw (lt-leb 16 run h)
 

@@ -2,7 +2,7 @@
 use Prim.Native.Nat.{ℕ}
 use mathlib.Core.Path.{_≡_, refl, sym, ap, subst}
 use mathlib.Core.Bool.{true}
-use mathlib.Core.Logic.{_⊎_, inl, inr, ⊎-elim}
+use mathlib.Core.Logic.{_⊎_, inl, inr}
 use Rattle.units.specs.declared.labels.RoundLabel.{RoundLabel}
 use Rattle.units.specs.declared.settings.Numbers.{Numbers}
 use Rattle.units.specs.Labels.{before}
@@ -16,7 +16,7 @@ use Rattle.plan.specs.declared.brief.Phase.the-variants.{Idle}
 use Rattle.plan.specs.declared.planned.Effect.the-variants.{Issue}
 use Rattle.plan.specs.declared.planned.Plan.{Plan}
 use Rattle.plan.specs.declared.planned.Sent.{Sent}
-use Rattle.plan.specs.declared.planned.Sent.the-variants.{Nothing, One}
+use Rattle.plan.specs.declared.planned.Sent.the-variants.{Nothing}
 use Rattle.plan.specs.Plan.{afterwards}
 use Rattle.plan.specs.Votes.{ownDigest, possessed}
 use Rattle.controller.specs.declared.state.Controller.{Controller}
@@ -35,10 +35,7 @@ use Rattle.controller_laws.specs.Ways.Votes.{another's, ours}
 use Rattle.controller_laws.specs.Ways.Leads.{refused, unchanged, begins, adds, replies, merges, updates, adopts-idle, adopts-before, adopts-past, asks, adverts, asks-and-adverts, collected, lapses, counts, open-still, behind, lacking, issues, restarts}
 use Rattle.controller_laws.specs.Ways.Goes.{out, led}
 use Rattle.controller_laws.proofs.Ways.{on-pick, goes}
-
--- what holds of all that an answer sends holds of one of its messages
-one-of : (P : Head → Type 0) (x y : Sent) → OnSent P x → OnSent P y → (head : Head) → (x ≡ One head) ⊎ (y ≡ One head) → P head
-one-of P x y p q head w = ⊎-elim (λ e. subst (OnSent P) e p) (λ e. subst (OnSent P) e q) w
+use Rattle.controller_laws.proofs.Sendings.{one-of}
 
 module _ (s : Numbers) (c : Controller) (a : Message) where
   -- ---- what sent a message

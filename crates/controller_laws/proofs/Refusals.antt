@@ -25,10 +25,10 @@ use Rattle.controller_laws.specs.Ways.Leads.{refused, unchanged, begins,
 use Rattle.controller_laws.specs.Ways.Goes.{out, led}
 use Rattle.controller_laws.proofs.Ways.{goes}
 
-not-taken : {A : Type 0} {why : Refusal} → Taken ≡ Denied why → A
+pub not-taken : {A : Type 0} {why : Refusal} → Taken ≡ Denied why → A
 not-taken p = let z : _≡_ {A = ℕ} 0 1 = cc in absurd (omega arith)
 
-same-why : {w why : Refusal} → Denied w ≡ Denied why → w ≡ why
+pub same-why : {w why : Refusal} → Denied w ≡ Denied why → w ≡ why
 same-why p = cc
 
 -- one refusal cannot both end the round and not

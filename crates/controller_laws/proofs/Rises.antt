@@ -37,7 +37,7 @@ same-effect e h Nothing = refl
 same-effect e h (One one) = refl
 
 -- what is issued was computed from the state that is here, which lies before the round
-pub issue-base : (c : Controller) (chosen : Digest) → before (chosen .state) (c .label) ≡ true → possessed (briefOf c) chosen ≡ true → c .state .0 < c .label .0
+issue-base : (c : Controller) (chosen : Digest) → before (chosen .state) (c .label) ≡ true → possessed (briefOf c) chosen ≡ true → c .state .0 < c .label .0
 unfolding possessed
 issue-base c chosen b p =
     let e = eqb-true (chosen .state .0) (c .state .0) (and-right (eqb (bitAnd (chosen .mask) (c .held)) (chosen .mask)) _ p) in

@@ -16,6 +16,7 @@ use Rattle.units.specs.Limits.{runsTop, labelTop}
 use Rattle.units.specs.Mask.{maskEnd}
 use Rattle.units.specs.Settings.{groupFits, numbersFit}
 use Rattle.units.proofs.Masks.{some-mask}
+use Rattle.units.proofs.Every.{and-both}
 use Rattle.floats.specs.Bits.{nought}
 use Rattle.floats.specs.Ranges.{blank, noEstimate, stateFits, targetsFit}
 use Rattle.floats.proofs.Places.{state-made, targets-made}
@@ -54,7 +55,7 @@ use Rattle.controller_laws.specs.Ways.Goes.{out, led}
 use Rattle.controller_laws.proofs.Decided.{decided-legal}
 use Rattle.controller_laws.proofs.Fits.{own-legal, inputs}
 use Rattle.controller_laws.proofs.Held.{none-fit, selected-fit}
-use Rattle.controller_laws.proofs.Valid.{and-both, group-fits, legal-facts, Valid}
+use Rattle.controller_laws.proofs.Valid.{group-fits, legal-facts, Valid}
 use Rattle.controller_laws.proofs.Ways.{goes}
 
 -- ---- arrays that a message does not use
@@ -176,7 +177,7 @@ none-sent : {A : Type 0} {head : Head} → Nothing ≡ One head → A
 none-sent q = let z : _≡_ {A = ℕ} 0 1 = cc in absurd (omega arith)
 
 -- what holds of all that an answer sends holds of one of its messages
-one-of : (P : Head → Type 0) (x y : Sent) → OnSent P x → OnSent P y → (head : Head) → (x ≡ One head) ⊎ (y ≡ One head) → P head
+pub one-of : (P : Head → Type 0) (x y : Sent) → OnSent P x → OnSent P y → (head : Head) → (x ≡ One head) ⊎ (y ≡ One head) → P head
 one-of P x y p q head w = ⊎-elim (λ e. subst (OnSent P) e p) (λ e. subst (OnSent P) e q) w
 
 module _ (s : Numbers) (c : Controller) (a : Message) where

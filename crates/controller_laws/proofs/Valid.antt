@@ -18,7 +18,7 @@ use Rattle.units.specs.Limits.{controllersTop, runsTop, labelTop, noiseTop, fir
 use Rattle.units.specs.Mask.{maskEnd, maskFits}
 use Rattle.units.specs.Settings.{groupFits, numbersFit, runsFit}
 use Rattle.units.specs.Within.{within}
-use Rattle.units.proofs.Every.{and-left, and-right, every-at, every-all}
+use Rattle.units.proofs.Every.{and-left, and-right, every-at, every-all, and-both}
 use Rattle.floats.specs.Ranges.{stateFits}
 use Rattle.vote.specs.declared.digest.Digest.{Digest}
 use Rattle.vote.specs.declared.votes.Ballot.{Ballot}
@@ -35,9 +35,6 @@ use Rattle.controller.specs.declared.state.Controller.{Controller}
 use Rattle.controller.specs.State.{briefOf, nobody, ballotAt, cast, phaseFits, controllerFits}
 use Rattle.controller.specs.Effects.{seated}
 use Rattle.controller_laws.specs.Ways.{Busy}
-
-pub and-both : {a b : Bool} → a ≡ true → b ≡ true → (a && b) ≡ true
-and-both p q = rw (p, q)
 
 pub five : (a b c d e : Bool) → (a && b && c && d && e) ≡ true → (a ≡ true) × (b ≡ true) × (c ≡ true) × (d ≡ true) × (e ≡ true)
 five a b c d e p =
@@ -108,7 +105,7 @@ module _ (s : Group) (label : RoundLabel) (votes : List Seat) where
   unfolding seatsFit
   seats-length h = eqb-true _ _ (and-left (eqb (length votes) 7) _ h)
 
-  pub seats-place : seatsFit s label votes ≡ true → (i : ℕ) → i < 7 → seatAt s label votes i ≡ true
+  seats-place : seatsFit s label votes ≡ true → (i : ℕ) → i < 7 → seatAt s label votes i ≡ true
   unfolding seatsFit
   seats-place h i k = every-at (seatAt s label votes) 7 i (and-right (eqb (length votes) 7) _ h) k
 

@@ -53,6 +53,9 @@ on-pick P false f g = g refl
 pub same-round : (l k : RoundLabel) → l .0 ≡ k .0 → l ≡ k
 same-round l k e = λ i. record { 0 = e i }
 
+pub same-state : (l k : StateLabel) → l .0 ≡ k .0 → l ≡ k
+same-state l k e = λ i. record { 0 = e i }
+
 module _ (s : Numbers) (c : Controller) (a : Message) where
   abbrev To : Head → Plan → Type 0
   To h = Leads s c a h
@@ -208,7 +211,7 @@ module _ (s : Numbers) (c : Controller) (a : Message) where
   judged-pick h t p q f g = on-pick (λ (r : Plan). To h (votePlan s c r)) t f g
 
   -- ---- every message
-  pub leads : (h : Head) → To h (planned s c a h)
+  leads : (h : Head) → To h (planned s c a h)
   unfolding planned planQuery planReply planUpdate planSetpoints planDue planEnds planVotingEnds planFloor planDigest judgedPlan
   leads (Reading label run raw) = reading-way (getD (c .readings) run 0) label run raw
   leads (Query sender label mask) = theirs _ sender (λ _. current (λ k. Query sender k mask) label (query-way sender mask (c .phase) refl))

@@ -55,17 +55,21 @@ unfoldable pub chain : Numbers → Controller → List Message → List Said
 chain s c [] = []
 chain s c (a ∷ more) = let r = stepped s c a in said s r ∷ chain s (r .next) more
 
--- G 2 2, N 1 300 99, K 0 C-101 1.0047 3, K 1 C-102 1.0000 1
-unfoldable pub numbers : Numbers
-numbers =
+-- N 1 300 99, K 0 C-101 1.0047 3, K 1 C-102 1.0000 1, for a group of g controllers
+abbrev pub sized : ℕ → Numbers
+sized g =
     record {
-      group = record { g = 2; m = 2 };
+      group = record { g = g; m = 2 };
       q = 1;
       r = 300;
       p = 99;
       factors = 10047 ∷ 10000 ∷ replicate 14 0;
       weights = 3 ∷ 1 ∷ replicate 14 0;
     }
+
+-- G 2 2
+unfoldable pub numbers : Numbers
+numbers = sized 2
 
 abbrev pub first : RoundLabel
 first = record { 0 = 1 }

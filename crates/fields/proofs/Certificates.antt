@@ -1,7 +1,7 @@
 -- The laws of certificates, and the steps of the loop that reads one. Assumes nothing.
 use Prim.Native.Nat.{ℕ, _+_, _-_, _≤_, _<_}
 use mathlib.Core.Path.{_≡_, refl, sym, ap, _∙_}
-use mathlib.Core.List.{List, [], _∷_, _++_}
+use mathlib.Core.List.{List, [], _∷_}
 use mathlib.Core.Bool.{Bool, true, false, not, _&&_}
 use native.Mathlib.Omega.{arith}
 use lib.ListN.{length, getD, drop}
@@ -13,7 +13,7 @@ use Rattle.fields.specs.Text.{lacks, ends, fieldAt}
 use Rattle.fields.specs.Certificate.{visible, allVisible, isCertificate, certificateAt}
 use Rattle.fields.specs.declared.certificate.Certificate.the-variants.{At, Form}
 use Rattle.fields.proofs.Cases.{by-test, absurd-by}
-use Rattle.fields.proofs.Texts.{first-none, first-is, field-next}
+use Rattle.fields.proofs.Texts.{first-none, field-next}
 
 -- THE LAWS: what is accepted is a certificate, and every certificate is accepted where it stands
 pub certificate-only : (text : List ℕ) (at end : ℕ) → certificateAt text at ≡ At end → (isCertificate (fieldAt text at) ≡ true) × (end ≡ at + length (fieldAt text at))
@@ -38,10 +38,6 @@ unfolding isCertificate
 certificate-long cs e =
     let l = and-left (leb 1 (length cs) && leb (length cs) 16) (allVisible cs) e in
     (leb-true 1 (length cs) (and-left (leb 1 (length cs)) (leb (length cs) 16) l), leb-true (length cs) 16 (and-right (leb 1 (length cs)) (leb (length cs) 16) l))
-
-pub certificate-read : (text : List ℕ) (at : ℕ) (cs rest : List ℕ) → drop at text ≡ cs ++ rest → ends rest ≡ true → isCertificate cs ≡ true → certificateAt text at ≡ At (at + length cs)
-unfolding certificateAt
-certificate-read text at cs rest d r e = rw (d, first-is cs rest (certificate-lacks 9 cs (omega arith) e) r, e)
 
 -- THE LOOP
 pub record Seen (text : List ℕ) (at i : ℕ) : Type 0 where

@@ -27,7 +27,7 @@ char-digit c =
     (λ h. rw (lt-ltb c 71 h) (λ k. let d : 10 ≤ c - 55 = omega arith in rw (le-ltb (c - 55) 10 d) (omega arith)))
     (λ h4. rw (le-ltb c 71 h4) (λ k. absurd (omega arith)))))))))
 
-pub digit-char : (d : ℕ) → d < 16 → digitOf (charOf d) ≡ d
+digit-char : (d : ℕ) → d < 16 → digitOf (charOf d) ≡ d
 unfolding digitOf charOf
 digit-char d k =
     by-lt d 10

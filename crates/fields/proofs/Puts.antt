@@ -1,5 +1,5 @@
 -- The laws of putting bytes, and what the functions that put them need. Assumes nothing.
-use Prim.Native.Nat.{ℕ, suc, _+_, _-_, _≤_, _<_}
+use Prim.Native.Nat.{ℕ, suc, _+_, _≤_, _<_}
 use mathlib.Core.Path.{_≡_, refl, ap, _∙_}
 use mathlib.Core.List.{List, [], _∷_, _++_}
 use native.Mathlib.Omega.{arith}
@@ -58,12 +58,12 @@ module _ (l : List ℕ) (at : ℕ) (s t : List ℕ) (h : at + length (s ++ t) �
   room-then : at + length s + length t ≤ length (sets l at s)
   room-then = let a = length-append s t in let n = length-sets l at s in omega arith
 
-  pub put-put : put (put l at s) (putEnd l at s) t ≡ put l at (s ++ t)
+  put-put : put (put l at s) (putEnd l at s) t ≡ put l at (s ++ t)
   put-put =
       rw (put-room l at s room-first, end-room l at s room-first, put-room l at (s ++ t) h, put-room (sets l at s) (at + length s) t room-then)
       (sets-append s t l at)
 
-  pub end-end : putEnd (put l at s) (putEnd l at s) t ≡ putEnd l at (s ++ t)
+  end-end : putEnd (put l at s) (putEnd l at s) t ≡ putEnd l at (s ++ t)
   end-end =
       let a = length-append s t in
       rw (put-room l at s room-first, end-room l at s room-first, end-room l at (s ++ t) h, end-room (sets l at s) (at + length s) t room-then) (omega arith)
@@ -80,14 +80,3 @@ written-is sp n h = rw (le-leb n (limit sp) h)
 pub written-none : (sp : Spelling) (n : ℕ) → limit sp < n → written sp n ≡ []
 unfolding written
 written-none sp n h = rw (lt-leb n (limit sp) h)
-
--- a number up to its limit, with room for it, is put in its spelling, and nothing else changes
-pub number-put : (l : List ℕ) (at : ℕ) (sp : Spelling) (n : ℕ) → n ≤ limit sp → at + length (spelled sp n) ≤ length l → (put l at (written sp n) ≡ sets l at (spelled sp n)) × (putEnd l at (written sp n) ≡ at + length (spelled sp n))
-number-put l at sp n h r = rw (written-is sp n h) (put-room l at (spelled sp n) r, end-room l at (spelled sp n) r)
-
--- in every other case nothing is put
-pub number-over : (l : List ℕ) (at : ℕ) (sp : Spelling) (n : ℕ) → limit sp < n → (put l at (written sp n) ≡ l) × (putEnd l at (written sp n) ≡ at)
-number-over l at sp n h = rw (written-none sp n h) (put-empty l at, end-empty l at)
-
-pub number-none : (l : List ℕ) (at : ℕ) (sp : Spelling) (n : ℕ) → n ≤ limit sp → length l < at + length (spelled sp n) → (put l at (written sp n) ≡ l) × (putEnd l at (written sp n) ≡ at)
-number-none l at sp n h r = rw (written-is sp n h) (put-none l at (spelled sp n) r, end-none l at (spelled sp n) r)

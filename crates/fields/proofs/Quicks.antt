@@ -7,16 +7,16 @@ use native.Mathlib.Omega.{arith}
 use native.Mathlib.Numerals.{add-one}
 use lib.ListN.{length, getD, take, drop, length-take, length-drop, drop-of-length-le}
 use lib.Seq.{drop-cons}
-use lib.Dec.{eqb, ltb, leb, lit<}
+use lib.Dec.{eqb, ltb, leb}
 use borrow.Author.Tests.{lt-ltb, le-ltb, ltb-true, ltb-false, eq-eqb, ne-eqb, eqb-true, eqb-false, le-leb, lt-leb, not-true, not-false}
 use Rattle.units.proofs.Every.{and-left, and-right}
 use Rattle.fields.specs.Digits.{pick, digitOf, valueFrom, fixedIn, digitsOf}
-use Rattle.fields.specs.Text.{fieldAt, nextAt, until}
+use Rattle.fields.specs.Text.{fieldAt, until}
 use Rattle.fields.specs.Field.{plain, decimalSaid, factorSaid, saidBy, fits, judge, readField, readAt, startOf, readHere, earlier}
 use Rattle.fields.specs.declared.digit.Digits.{Digits}
 use Rattle.fields.specs.declared.digit.Digits.the-variants.{Said, Wrong}
 use Rattle.fields.specs.declared.field.Field.{Field}
-use Rattle.fields.specs.declared.field.Field.the-variants.{Value, Form, Range}
+use Rattle.fields.specs.declared.field.Field.the-variants.{Value, Form}
 use Rattle.fields.specs.declared.spelling.Spelling.{Spelling}
 use Rattle.fields.specs.declared.spelling.Spelling.the-variants.{Decimal, Hex4, Hex16, Factor}
 use Rattle.fields.proofs.Cases.{by-test, by-lt, absurd-by}
@@ -131,11 +131,11 @@ module _ (text : List ℕ) (at n i : ℕ) (r : Running text at n i) where
         }
 
 -- `decimal_here`
-pub here-wrong : (text : List ℕ) (at : ℕ) (sp : Spelling) (low high : ℕ) → saidBy sp (startOf sp (drop at text)) ≡ Wrong → Form ≡ readHere text at sp low high
+here-wrong : (text : List ℕ) (at : ℕ) (sp : Spelling) (low high : ℕ) → saidBy sp (startOf sp (drop at text)) ≡ Wrong → Form ≡ readHere text at sp low high
 unfolding readHere readField judge
 here-wrong text at sp low high e = rw e
 
-pub here-said : (text : List ℕ) (at : ℕ) (sp : Spelling) (low high n end : ℕ) (r : Field) → end ≡ at + length (startOf sp (drop at text)) → saidBy sp (startOf sp (drop at text)) ≡ Said n
+here-said : (text : List ℕ) (at : ℕ) (sp : Spelling) (low high n end : ℕ) (r : Field) → end ≡ at + length (startOf sp (drop at text)) → saidBy sp (startOf sp (drop at text)) ≡ Said n
     → r ≡ judge sp low high end (Said n) → r ≡ readHere text at sp low high
 unfolding readHere readField
 here-said text at sp low high n end r l e j = rw (← l, e) j
@@ -283,7 +283,7 @@ module _ (text : List ℕ) (at low high : ℕ) (d : Digits) (p : d ≡ fixedIn 1
   unfolding startOf saidBy
   mask-wrong e = here-wrong text at Hex4 low high (sym p ∙ e)
 
-  pub mask-within : (n : ℕ) → d ≡ Said n → at + 4 ≤ length text
+  mask-within : (n : ℕ) → d ≡ Said n → at + 4 ≤ length text
   mask-within n e = said-within text at 16 4 0 n (omega arith) (sym p ∙ e)
 
   pub mask-said : (n : ℕ) → d ≡ Said n → (r : Field) → r ≡ judge Hex4 low high (at + 4) (Said n) → r ≡ readHere text at Hex4 low high

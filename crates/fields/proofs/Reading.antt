@@ -145,7 +145,7 @@ said-within text at base k n m p e =
     omega arith
 
 module _ (base k n : ℕ) (cs : List ℕ) (b : base ≤ 16) where
-  pub field-wrong : fixedIn base k n (take k cs) ≡ Wrong → fixedIn base k n (firstField cs) ≡ Wrong
+  field-wrong : fixedIn base k n (take k cs) ≡ Wrong → fixedIn base k n (firstField cs) ≡ Wrong
   unfolding fixedIn
   field-wrong e =
       by-test (eqb (length (firstField cs)) k)
@@ -161,13 +161,13 @@ module _ (base k n : ℕ) (cs : List ℕ) (b : base ≤ 16) where
     first-long : length (firstField cs) ≡ k + length (firstField (drop k cs))
     first-long = rw first-joined (length-append (take k cs) (firstField (drop k cs)) ∙ rw (fixed-said base k n m (take k cs) e .0))
 
-    pub field-long : ends (drop k cs) ≡ true → length (firstField cs) ≡ k
+    field-long : ends (drop k cs) ≡ true → length (firstField cs) ≡ k
     field-long t = first-long ∙ rw (first-none (drop k cs) t) (omega arith)
 
-    pub field-said : ends (drop k cs) ≡ true → fixedIn base k n (firstField cs) ≡ Said m
+    field-said : ends (drop k cs) ≡ true → fixedIn base k n (firstField cs) ≡ Said m
     field-said t = rw (first-joined, first-none (drop k cs) t, append-nil (take k cs)) e
 
-    pub field-more : ends (drop k cs) ≡ false → fixedIn base k n (firstField cs) ≡ Wrong
+    field-more : ends (drop k cs) ≡ false → fixedIn base k n (firstField cs) ≡ Wrong
     unfolding fixedIn
     field-more t =
         let s = first-some (drop k cs) t in
@@ -219,7 +219,7 @@ factor-first c (p ∷ cs) =
     by-test (ltb (digitOf c) 10) (λ t. rw t (λ e. absurd-by (cc)))
     (λ t. rw t (λ e. by-test (eqb p 46) (λ u. rw u (by-test (eqb (length (c ∷ cs)) (suc factorDigits)) (λ v. rw v) (λ v. rw v))) (λ u. rw u)))
 
-pub factor-digit : (cs : List ℕ) → fixedIn 10 1 0 (take 1 cs) ≡ Wrong → factorSaid (firstField cs) ≡ Wrong
+factor-digit : (cs : List ℕ) → fixedIn 10 1 0 (take 1 cs) ≡ Wrong → factorSaid (firstField cs) ≡ Wrong
 unfolding fixedIn factorSaid until
 factor-digit [] e = refl
 factor-digit (c ∷ cs) e = by-test (eqb c 9) (λ t. rw t) (λ t. rw t (factor-first c (firstField cs) e))
@@ -233,7 +233,7 @@ unfolding factorSaid until starts
 no-point c [] s = refl
 no-point c (p ∷ ps) s = by-test (eqb p 9) (λ t. rw t) (λ t. rw (t, s))
 
-pub factor-point : (cs : List ℕ) (w : ℕ) → fixedIn 10 1 0 (take 1 cs) ≡ Said w → starts 46 (drop 1 cs) ≡ false → factorSaid (firstField cs) ≡ Wrong
+factor-point : (cs : List ℕ) (w : ℕ) → fixedIn 10 1 0 (take 1 cs) ≡ Said w → starts 46 (drop 1 cs) ≡ false → factorSaid (firstField cs) ≡ Wrong
 unfolding fixedIn
 factor-point [] w e s = absurd-by (cc)
 factor-point (c ∷ cs) w e s = rw (first-digit c cs (digit-one c cs w e .0)) (no-point c cs s)
@@ -245,7 +245,7 @@ digits-after c w f l e =
     rw (eqb·suc-suc (length f) factorDigits, lt-ltb (digitOf c) 10 l, q)
 
 -- a digit and a point stand before the digits that are left
-pub factor-rest : (cs : List ℕ) (w : ℕ) → fixedIn 10 1 0 (take 1 cs) ≡ Said w → starts 46 (drop 1 cs) ≡ true
+factor-rest : (cs : List ℕ) (w : ℕ) → fixedIn 10 1 0 (take 1 cs) ≡ Said w → starts 46 (drop 1 cs) ≡ true
     → (factorSaid (firstField cs) ≡ fixedIn 10 factorDigits w (firstField (drop 2 cs))) × (length (firstField cs) ≡ 2 + length (firstField (drop 2 cs)))
 unfolding fixedIn starts until
 factor-rest [] w e s = absurd-by (cc)

@@ -1,33 +1,24 @@
 -- The laws of a line's scan, and the steps of its loop. Assumes nothing.
-use Prim.Native.Nat.{ℕ, _+_, _-_, _≤_, _<_}
-use mathlib.Core.Path.{_≡_, sym, ap}
-use mathlib.Core.List.{List, [], _∷_, _++_, append-nil}
+use Prim.Native.Nat.{ℕ, _+_, _≤_, _<_}
+use mathlib.Core.Path.{_≡_, ap}
+use mathlib.Core.List.{List, [], _∷_, _++_}
 use mathlib.Core.Bool.{true}
 use native.Mathlib.Omega.{arith}
 use native.Mathlib.Numerals.{add-one}
-use lib.ListN.{length, getD, take, drop, length-append, drop-of-length-le}
+use lib.ListN.{length, getD, drop, drop-of-length-le}
 use lib.Seq.{drop-cons}
 use lib.Dec.{eqb}
 use borrow.Author.Tests.{eq-eqb, ne-eqb, eqb-true}
-use Rattle.fields.specs.Text.{until, fieldsOf, lacks, tabsIn, scanned}
+use Rattle.fields.specs.Text.{until, tabsIn, scanned}
 use Rattle.fields.proofs.Cases.{by-test}
-use Rattle.fields.proofs.Texts.{until-take, until-short, until-lacks, until-append, fields-count}
-
--- the text before the line feed is what stands before its place
-pub scan-text : (line : List ℕ) → take (scanned line .feed) line ≡ until 10 line
-unfolding scanned
-scan-text line = until-take 10 line
+use Rattle.fields.proofs.Texts.{until-short}
 
 pub scan-within : (line : List ℕ) → scanned line .feed ≤ length line
 unfolding scanned
 scan-within line = until-short 10 line
 
--- it has one field more than tabs were counted
-pub scan-fields : (line : List ℕ) → length (fieldsOf (take (scanned line .feed) line)) ≡ scanned line .tabs + 1
-unfolding scanned
-scan-fields line = rw (until-take 10 line) (fields-count (until 10 line))
-
-feed-last : (cs : List ℕ) → length (until 10 cs) + 1 ≡ length cs → cs ≡ until 10 cs ++ (10 ∷ [])
+-- where the first line feed is the last byte, the line is what stands before it, and it
+pub feed-last : (cs : List ℕ) → length (until 10 cs) + 1 ≡ length cs → cs ≡ until 10 cs ++ (10 ∷ [])
 unfolding until
 feed-last [] = λ h. absurd (omega arith)
 feed-last (c ∷ cs) =
@@ -38,19 +29,6 @@ feed-last (c ∷ cs) =
     one : (c : ℕ) (cs : List ℕ) → c ≡ 10 → length cs ≡ 0 → c ∷ cs ≡ 10 ∷ []
     one c [] e h = rw e
     one c (d ∷ cs) e h = absurd (omega arith)
-
--- THE ONLY LINE FEED IS THE LAST BYTE exactly when its place is the last
-pub scan-ended : (line : List ℕ) → scanned line .feed + 1 ≡ length line
-    → (line ≡ take (scanned line .feed) line ++ (10 ∷ [])) × (lacks 10 (take (scanned line .feed) line) ≡ true)
-unfolding scanned
-scan-ended line h = rw (until-take 10 line) (feed-last line h, until-lacks 10 line)
-
-pub scan-back : (text : List ℕ) → lacks 10 text ≡ true → scanned (text ++ (10 ∷ [])) ≡ record { tabs = tabsIn text; feed = length text }
-unfolding scanned until
-scan-back text e = rw (until-append 10 text (10 ∷ []) e, append-nil text)
-
-pub scan-last : (text : List ℕ) → lacks 10 text ≡ true → scanned (text ++ (10 ∷ [])) .feed + 1 ≡ length (text ++ (10 ∷ []))
-scan-last text e = rw (scan-back text e) (sym (length-append text (10 ∷ [])))
 
 -- THE LOOP: what is passed and what is left make the whole
 pub record Passed (line : List ℕ) (i tabs : ℕ) : Type 0 where

@@ -1,5 +1,5 @@
 -- THE LAWS OF A FIELD, for every spelling: what is accepted is spelled in the one way, and what is spelled so is read back. Assumes nothing.
-use Prim.Native.Nat.{ℕ, zero, suc, _+_, _-_, _/_, _%_, _≤_, _<_}
+use Prim.Native.Nat.{ℕ, zero, suc, _+_, _/_, _%_, _≤_, _<_}
 use mathlib.Core.Path.{_≡_, refl, ap, _∙_}
 use mathlib.Core.List.{List, [], _∷_, _++_}
 use mathlib.Core.Bool.{true, _&&_}
@@ -37,14 +37,14 @@ factor-pointed [] k e = absurd (omega arith)
 factor-pointed (c ∷ cs) k e = refl
 
 -- THE EXACT NUMBER
-pub spelled-only : (sp : Spelling) (cs : List ℕ) (n : ℕ) → saidBy sp cs ≡ Said n → cs ≡ spelled sp n
+spelled-only : (sp : Spelling) (cs : List ℕ) (n : ℕ) → saidBy sp cs ≡ Said n → cs ≡ spelled sp n
 unfolding saidBy spelled
 spelled-only Decimal cs n e = decimal-only cs n e
 spelled-only Hex4 cs n e = fixed-only 16 4 cs n (lit≤ tt) e
 spelled-only Hex16 cs n e = fixed-only 16 16 cs n (lit≤ tt) e
 spelled-only Factor cs n e = factor-only cs n e
 
-pub spelled-read : (sp : Spelling) (n : ℕ) → n ≤ limit sp → saidBy sp (spelled sp n) ≡ Said n
+spelled-read : (sp : Spelling) (n : ℕ) → n ≤ limit sp → saidBy sp (spelled sp n) ≡ Said n
 unfolding saidBy spelled
 spelled-read Decimal n h = decimal-read n
 spelled-read Hex4 n h = fixed-read 16 4 n (lit< tt) (lit≤ tt) (omega arith)

@@ -4,7 +4,7 @@ use mathlib.Core.Path.{_≡_, refl, sym, ap, _∙_}
 use mathlib.Core.List.{List, [], _∷_, _++_}
 use mathlib.Core.Bool.{true}
 use native.Mathlib.Omega.{arith}
-use lib.ListN.{length, take, drop, length-append, length-drop, take-append-drop, drop-of-length-le}
+use lib.ListN.{length, take, drop, length-append, length-drop, take-append-drop}
 use lib.Seq.{drop-drop}
 use lib.Dec.{ltb}
 use Rattle.fields.specs.Digits.{digitOf, digitsOf}
@@ -13,7 +13,7 @@ use Rattle.fields.specs.Field.{spelled, fits, startOf, readHere}
 use Rattle.fields.specs.declared.field.Field.the-variants.{Value}
 use Rattle.fields.specs.declared.spelling.Spelling.{Spelling}
 use Rattle.fields.specs.declared.spelling.Spelling.the-variants.{Decimal, Hex4, Hex16, Factor}
-use Rattle.fields.proofs.Cases.{by-test, by-lt}
+use Rattle.fields.proofs.Cases.{by-test}
 use Rattle.fields.proofs.Spellings.{field-only, spelled-some}
 use Rattle.fields.proofs.Texts.{until-take}
 

@@ -29,7 +29,7 @@ unfolding until lacks
 until-lacks b [] = refl
 until-lacks b (c ∷ cs) = by-test (eqb c b) (λ e. rw e) (λ e. rw (e, e) (until-lacks b cs))
 
-lacks-first : (b c : ℕ) (cs : List ℕ) → lacks b (c ∷ cs) ≡ true → (eqb c b ≡ false) × (lacks b cs ≡ true)
+pub lacks-first : (b c : ℕ) (cs : List ℕ) → lacks b (c ∷ cs) ≡ true → (eqb c b ≡ false) × (lacks b cs ≡ true)
 unfolding lacks
 lacks-first b c cs = by-test (eqb c b) (λ t. rw t (λ e. absurd-by (cc))) (λ t. rw t (λ e. (refl, e)))
 
@@ -37,6 +37,10 @@ pub until-append : (b : ℕ) (s t : List ℕ) → lacks b s ≡ true → until b
 unfolding until
 until-append b [] t e = refl
 until-append b (c ∷ s) t e = let r = lacks-first b c s e in rw (r .0) (ap (λ (l : List ℕ). c ∷ l) (until-append b s t (r .1)))
+
+pub until-all : (b : ℕ) (p : List ℕ) → lacks b p ≡ true → until b p ≡ p
+unfolding until
+until-all b p e = ap (until b) (sym (append-nil p)) ∙ until-append b p [] e ∙ append-nil p
 
 pub lacks-append : (b : ℕ) (s t : List ℕ) → lacks b s ≡ true → lacks b t ≡ true → lacks b (s ++ t) ≡ true
 unfolding lacks

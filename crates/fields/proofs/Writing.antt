@@ -170,7 +170,7 @@ module _ (sp : Spelling) (n m : ℕ) (lim : m ≡ limit sp) where
     unfolding spelled
     digits-hex4 e = rw (q, written-here h, e, fixed-length 16 4 n)
 
-    pub digits-hex16 : sp ≡ Hex16 → fixed 16 k n ≡ written sp n
+    digits-hex16 : sp ≡ Hex16 → fixed 16 k n ≡ written sp n
     unfolding spelled
     digits-hex16 e = rw (q, written-here h, e, fixed-length 16 16 n)
 
@@ -199,7 +199,7 @@ pub put-same : (sp tp : Spelling) (n : ℕ) (l d : List ℕ) (at r : ℕ) → sp
 put-same sp tp n l d at r e p = rw e p
 
 -- `put_factor`
-pub factor-parts : (n : ℕ) → n ≤ limit Factor → spelled Factor n ≡ charOf (n / factorScale) ∷ 46 ∷ fixed 10 factorDigits n
+factor-parts : (n : ℕ) → n ≤ limit Factor → spelled Factor n ≡ charOf (n / factorScale) ∷ 46 ∷ fixed 10 factorDigits n
 unfolding spelled pointed
 factor-parts n h = rw (fixed-top 10 factorDigits n (lit< tt) (omega arith))
 

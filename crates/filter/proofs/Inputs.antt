@@ -1,24 +1,21 @@
 -- What is in range of the inputs, and the two answers of `checked`. Assumes nothing.
 use mathlib.Core.Path.{_≡_, ap}
-use mathlib.Core.Bool.{Bool, true, false, _&&_}
+use mathlib.Core.Bool.{Bool, true, false}
 use mathlib.Core.List.{List}
 use Prim.Native.Nat.{ℕ, _≤_, _<_}
 use lib.ListN.{getD, replicate}
-use borrow.Author.Tests.{lt-ltb, leb-true, ltb-true}
+use borrow.Author.Tests.{lt-ltb, leb-true}
 use Rattle.units.specs.declared.labels.RoundLabel.{RoundLabel}
 use Rattle.units.specs.declared.labels.StateLabel.{StateLabel}
 use Rattle.units.specs.declared.estimate.Estimate.{Estimate}
 use Rattle.units.specs.declared.settings.Numbers.{Numbers}
 use Rattle.units.specs.declared.refusal.Refusal.the-variants.{Range}
 use Rattle.units.specs.declared.refusal.Verdict.the-variants.{Taken, Refused}
-use Rattle.units.specs.Labels.{before}
 use Rattle.units.specs.Limits.{rawTop}
-use Rattle.units.specs.Settings.{numbersFit}
-use Rattle.units.proofs.Every.{and-left, and-right, every-at}
+use Rattle.units.proofs.Every.{every-at}
 use Rattle.floats.specs.Bits.{nought}
-use Rattle.floats.specs.Ranges.{stateFits}
 use Rattle.filter.specs.Compute.{computed}
-use Rattle.filter.specs.Checked.{readingAt, readingsFit, chosenFits, inputsFit, answer, checked}
+use Rattle.filter.specs.Checked.{readingAt, readingsFit, inputsFit, answer, checked}
 
 -- a run's reading is in range
 pub reading-run : (m : ℕ) (readings : List ℕ) (i : ℕ) → readingsFit m readings ≡ true → i < m → i < 16 → getD readings i 0 ≤ rawTop
@@ -37,25 +34,3 @@ module _ (label : RoundLabel) (base : StateLabel) (state : List Estimate) (s : N
       → checked label base state s chosen readings ≡ record { verdict = Refused Range; computed = record { state = state; targets = replicate 16 nought } }
   unfolding checked answer
   checked-out h = ap (λ (b : Bool). answer b label base state s chosen readings) h
-
-  module _ (h : inputsFit label base state s chosen readings ≡ true) where
-    pub inputs-numbers : numbersFit s ≡ true
-    unfolding inputsFit
-    inputs-numbers = and-left (numbersFit s) _ (and-left (numbersFit s && stateFits (s .group .m) state) _ h)
-
-    pub inputs-state : stateFits (s .group .m) state ≡ true
-    unfolding inputsFit
-    inputs-state = and-right (numbersFit s) _ (and-left (numbersFit s && stateFits (s .group .m) state) _ h)
-
-    round-fits : (before base label && chosenFits (s .group .m) chosen && readingsFit (s .group .m) readings) ≡ true
-    unfolding inputsFit
-    round-fits = and-right (numbersFit s && stateFits (s .group .m) state) _ h
-
-    pub inputs-labels : base .0 < label .0
-    inputs-labels = ltb-true (base .0) (label .0) (and-left (before base label) _ (and-left (before base label && chosenFits (s .group .m) chosen) _ round-fits))
-
-    pub inputs-chosen : chosenFits (s .group .m) chosen ≡ true
-    inputs-chosen = and-right (before base label) _ (and-left (before base label && chosenFits (s .group .m) chosen) _ round-fits)
-
-    pub inputs-readings : readingsFit (s .group .m) readings ≡ true
-    inputs-readings = and-right (before base label && chosenFits (s .group .m) chosen) _ round-fits

@@ -15,12 +15,9 @@ use lib.Ieee.Order.{round-mono}
 use Rattle.floats.specs.Bits.{whole, nought}
 use Rattle.floats.specs.Ranges.{upTo}
 use Rattle.floats.proofs.Encoding.{whole-value}
-use Rattle.floats.proofs.Limits.{range-fits, nought-range}
+use Rattle.floats.proofs.Limits.{range-fits, nought-range, true-T}
 use Rattle.filter.specs.Run.{limited, atMost}
 use Rattle.filter.specs.Share.{target}
-
-true-T : {b : Bool} → b ≡ true → T b
-true-T h = subst T (sym h) tt
 
 -- the range on values alone: `upTo` without the test that the value is a float of 64 bits
 abbrev within : ℕ → Float → Bool
@@ -58,11 +55,6 @@ within-of-value nan n h = absurd h
 within-of-value (inf s) n h = absurd h
 within-of-value (fin true m e) n h = absurd (true≢false (h .0))
 within-of-value (fin false m e) n h = le→leb (m * up e) (n * down e) (le-of-eq (sym (mul-one (m * up e)) ∙ h .1))
-
-within-plus : (n : ℕ) (x : Float) → T (within n x) → T (plus x)
-within-plus n nan h = absurd h
-within-plus n (inf s) h = absurd h
-within-plus n (fin s m e) h = and-l (not s) (leb (m * up e) (n * down e)) h
 
 within-mono : (n k : ℕ) (x : Float) → n ≤ k → T (within n x) → T (within k x)
 within-mono n k nan l h = absurd h

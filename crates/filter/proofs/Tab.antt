@@ -21,7 +21,7 @@ module _ {A : Type 0} (f : ℕ → A) where
   getD-tab d i (suc k) zero h = ap f (sym (add-zero i))
   getD-tab d i (suc k) (suc j) h = getD-tab d (suc i) k j (le-of-suc-le-suc h) ∙ ap f (suc-add i j ∙ sym (add-suc i j))
 
-  pub is-tab : (d : A) (k : ℕ) (xs : List A) → length xs ≡ k → ((j : ℕ) → j < k → getD xs j d ≡ f j) → xs ≡ tab f 0 k
+  is-tab : (d : A) (k : ℕ) (xs : List A) → length xs ≡ k → ((j : ℕ) → j < k → getD xs j d ≡ f j) → xs ≡ tab f 0 k
   is-tab d k xs e h =
       ext-getD d xs (tab f 0 k) (e ∙ sym (length-tab 0 k))
       (λ j b. let c : j < k = subst (λ (n : ℕ). j < n) e b in h j c ∙ sym (getD-tab d 0 k j c ∙ ap f (zero-add j)))

@@ -51,7 +51,7 @@ range-fits n nan h = absurd (true≢false (sym h))
 range-fits n (inf s) h = absurd (true≢false (sym h))
 range-fits n (fin s m e) h = and-left (fits binary64 (fin s m e)) _ h
 
-true-T : {b : Bool} → b ≡ true → T b
+pub true-T : {b : Bool} → b ≡ true → T b
 true-T h = subst T (sym h) tt
 
 -- "in its range exactly when its bits are at most the limit's bits"
@@ -63,7 +63,7 @@ pub range-bits : (n L : ℕ) → Limit n L → (v : Float) → upTo n v ≡ true
 range-bits n L l v h = leb-true _ _ (bits-test n L l v (range-fits n v h) ∙ h)
 
 -- bits up to infinity's are no NaN's
-pub no-nan : (b : ℕ) → b ≤ 0x7ff0_0000_0000_0000 → nanBits binary64 b ≡ false
+no-nan : (b : ℕ) → b ≤ 0x7ff0_0000_0000_0000 → nanBits binary64 b ≡ false
 no-nan b h =
     let l : b < 9223372036854775808 = omega arith in
     nanBits-above binary64 b ∙ ap (ltb 9218868437227405312) (mod-eq-of-lt l) ∙ le-ltb 9218868437227405312 b h
@@ -80,7 +80,7 @@ unfolding floatOf
 float-high b h = rw (lt-leb b 0x7ff0_0000_0000_0000 h)
 
 -- from bits to the float and back
-pub bits-back : (b : ℕ) → b ≤ 0x7ff0_0000_0000_0000 → bitsOf (floatOf b) ≡ b
+bits-back : (b : ℕ) → b ≤ 0x7ff0_0000_0000_0000 → bitsOf (floatOf b) ≡ b
 unfolding bitsOf
 bits-back b h =
     ap (toBits binary64) (sym (float-low b h))
@@ -143,13 +143,9 @@ value-range n k (fin false m e) l h f =
 pub whole-range : (n k : ℕ) → n ≤ k → n ≤ 2 ^ 53 → upTo k (whole n) ≡ true
 whole-range n k l h = value-range n k (whole n) l (whole-value n h) (is-true (fits binary64 (whole n)) (ofInt-fits binary64 (pos n)))
 
-pub nought-is : nought ≡ whole 0
+nought-is : nought ≡ whole 0
 unfolding ofBits ofInt
 nought-is = refl
-
-pub nought-bits : bitsOf nought ≡ 0
-unfolding bitsOf toBits ofBits
-nought-bits = refl
 
 pub nought-range : (n : ℕ) → upTo n nought ≡ true
 nought-range n = ap (upTo n) nought-is ∙ whole-range 0 n zero-le zero-le

@@ -15,15 +15,12 @@ use borrow.Author.Tests.{lt-ltb, le-ltb, eqb-true, eq-eqb}
 use Rattle.units.specs.declared.estimate.Estimate.{Estimate}
 use Rattle.units.specs.Limits.{xTop, varianceTop, targetTop}
 use Rattle.units.specs.Every.{every}
-use Rattle.units.proofs.Every.{and-left, and-right, every-at, every-all}
+use Rattle.units.proofs.Every.{and-left, and-right, every-at, every-all, and-both}
 use Rattle.floats.specs.Bits.{nought, sameFloat}
 use Rattle.floats.specs.Ranges.{upTo, estimateFits, blank, noEstimate, sameEstimate, estimatePlace, stateAt, stateFits, targetPlace, targetAt, targetsFit, sameAt, sameState}
 use Rattle.floats.proofs.Limits.{range-fits, same-is, same-self}
 
-and-both : {a b : Bool} → a ≡ true → b ≡ true → (a && b) ≡ true
-and-both p q = rw (p, q)
-
-pub nought-fits : fits binary64 nought ≡ true
+nought-fits : fits binary64 nought ≡ true
 nought-fits = is-true (fits binary64 (ofBits binary64 0)) (ofBits-fits binary64 0)
 
 -- ---- an estimate
@@ -50,10 +47,10 @@ same-estimate-of : (e : Estimate) → fits binary64 (e .x) ≡ true → fits bin
 unfolding sameEstimate
 same-estimate-of e p q = and-both (same-self (e .x) p) (same-self (e .variance) q)
 
-pub same-estimate-self : (e : Estimate) → estimateFits e ≡ true → sameEstimate e e ≡ true
+same-estimate-self : (e : Estimate) → estimateFits e ≡ true → sameEstimate e e ≡ true
 same-estimate-self e h = same-estimate-of e (range-fits xTop (e .x) (estimate-x e h)) (range-fits varianceTop (e .variance) (estimate-variance e h))
 
-pub blank-self : sameEstimate blank blank ≡ true
+blank-self : sameEstimate blank blank ≡ true
 blank-self = same-estimate-of blank nought-fits nought-fits
 
 -- ---- a state

@@ -24,18 +24,13 @@ use Rattle.plan.specs.Votes.{possessed}
 use Rattle.controller.specs.declared.state.Controller.{Controller}
 use Rattle.controller.specs.State.{briefOf}
 use Rattle.controller_laws.proofs.Masks.{in-and}
+use Rattle.controller_laws.proofs.Ways.{same-state}
 use Rattle.group.specs.Premises.{Meters}
 use Rattle.group.specs.Demand.{readingsOf}
 
-pub reading-of : (meters : Meters) (label : RoundLabel) (i : ℕ) → i < 16 → getD (readingsOf meters label) i 0 ≡ meters label i
+reading-of : (meters : Meters) (label : RoundLabel) (i : ℕ) → i < 16 → getD (readingsOf meters label) i 0 ≡ meters label i
 unfolding readingsOf
 reading-of meters label i k = getD-tab (meters label) 0 0 16 i k ∙ ap (meters label) (zero-add i)
-
-pub same-state-label : (a b : StateLabel) → a .0 ≡ b .0 → a ≡ b
-same-state-label a b e = ap mk e
-  where
-    mk : ℕ → StateLabel
-    mk n = record { 0 = n }
 
 -- the two halves of computing
 module _ (l : RoundLabel) (b : StateLabel) (es : List Estimate) (s : Numbers) (mask : ℕ) (rs : List ℕ) where
@@ -51,9 +46,9 @@ module _ (l : RoundLabel) (b : StateLabel) (es : List Estimate) (s : Numbers) (m
 module _ (c : Controller) (d : Digest) (p : possessed (briefOf c) d ≡ true) where
   pub chosen-state : d .state ≡ c .state
   unfolding possessed
-  chosen-state = same-state-label (d .state) (c .state) (eqb-true _ _ (and-right (eqb (bitAnd (d .mask) (c .held)) (d .mask)) _ p))
+  chosen-state = same-state (d .state) (c .state) (eqb-true _ _ (and-right (eqb (bitAnd (d .mask) (c .held)) (d .mask)) _ p))
 
-  pub chosen-held : (i : ℕ) → inMask (d .mask) i ≡ true → inMask (c .held) i ≡ true
+  chosen-held : (i : ℕ) → inMask (d .mask) i ≡ true → inMask (c .held) i ≡ true
   unfolding possessed
   chosen-held i e =
       let q : bitAnd (d .mask) (c .held) ≡ d .mask = eqb-true _ _ (and-left (eqb (bitAnd (d .mask) (c .held)) (d .mask)) _ p) in

@@ -10,7 +10,7 @@ use lib.ListN.{length, getD}
 use borrow.Author.Tests.{eqb-true, leb-true, ltb-true}
 use Rattle.units.specs.declared.labels.RoundLabel.{RoundLabel}
 use Rattle.units.specs.declared.settings.Numbers.{Numbers}
-use Rattle.units.proofs.Every.{and-left, and-right}
+use Rattle.units.proofs.Every.{and-left, and-right, no-way}
 use Rattle.message.specs.declared.head.Head.{Head}
 use Rattle.message.specs.declared.head.Head.the-variants.{Reading, Query, Reply, Advert, Update, Vote, Setpoints, Due, CollectingEnds, VotingEnds, Floor, Start, Refused}
 use Rattle.message.specs.declared.value.Message.{Message}
@@ -57,9 +57,6 @@ highest-above i floor (x ∷ l) e label m =
         (λ a. omega (arith, leb-true (x .floor .0) (floor .0) a)) (or-cases (ltb (x .who) i || ltb i (x .who)) (leb (x .floor .0) (floor .0)) h)
 
 -- ---- the test is right
-pub not-true : {A : Type 0} → false ≡ true → A
-not-true e = let z : _≡_ {A = ℕ} 0 1 = cc in absurd (omega arith)
-
 module _ (meters : Meters) (w : World) (i : ℕ) where
   -- a message that no clause is about
   free : (a : Message) → ((label : RoundLabel) (run raw : ℕ) → a .head ≡ Reading label run raw → ⊥) → (Exchanged (a .head) → ⊥) → ((own : ℕ) (low : RoundLabel) → a .head ≡ Start own low → ⊥)
@@ -102,24 +99,24 @@ module _ (meters : Meters) (w : World) (i : ℕ) where
   given (Due label) e = free (plain (Due label)) (λ l n r q. let z : _≡_ {A = ℕ} 0 1 = cc in omega arith) (λ t. t) (λ o l q. let z : _≡_ {A = ℕ} 0 1 = cc in omega arith) (λ l q. let z : _≡_ {A = ℕ} 0 1 = cc in omega arith)
   given (CollectingEnds label) e = free (plain (CollectingEnds label)) (λ l n r q. let z : _≡_ {A = ℕ} 0 1 = cc in omega arith) (λ t. t) (λ o l q. let z : _≡_ {A = ℕ} 0 1 = cc in omega arith) (λ l q. let z : _≡_ {A = ℕ} 0 1 = cc in omega arith)
   given (VotingEnds label) e = free (plain (VotingEnds label)) (λ l n r q. let z : _≡_ {A = ℕ} 0 1 = cc in omega arith) (λ t. t) (λ o l q. let z : _≡_ {A = ℕ} 0 1 = cc in omega arith) (λ l q. let z : _≡_ {A = ℕ} 0 1 = cc in omega arith)
-  given (Query sender label mask) e = not-true e
-  given (Reply sender label mask) e = not-true e
-  given (Advert sender state) e = not-true e
-  given (Update sender state) e = not-true e
-  given (Vote sender label digest) e = not-true e
-  given (Setpoints sender label digest) e = not-true e
-  given (Refused number) e = not-true e
+  given (Query sender label mask) e = no-way e
+  given (Reply sender label mask) e = no-way e
+  given (Advert sender state) e = no-way e
+  given (Update sender state) e = no-way e
+  given (Vote sender label digest) e = no-way e
+  given (Setpoints sender label digest) e = no-way e
+  given (Refused number) e = no-way e
 
   -- a message that was sent may be passed
   passed : (a : Message) → List·Memᴰ a (w .sent) → exchanged (a .head) ≡ true → Kept meters w i a
   unfolding exchanged
   passed a m e =
       record {
-        one-reading = λ l n r q. not-true (sym (ap exchanged q) ∙ e);
+        one-reading = λ l n r q. no-way (sym (ap exchanged q) ∙ e);
         not-made-up = λ t. m;
-        own-number = λ o l q. not-true (sym (ap exchanged q) ∙ e);
-        stored-first = λ l q. not-true (sym (ap exchanged q) ∙ e);
-        highest-floor = λ o l q. not-true (sym (ap exchanged q) ∙ e);
+        own-number = λ o l q. no-way (sym (ap exchanged q) ∙ e);
+        stored-first = λ l q. no-way (sym (ap exchanged q) ∙ e);
+        highest-floor = λ o l q. no-way (sym (ap exchanged q) ∙ e);
       }
 
 -- the test is right

@@ -2,7 +2,7 @@
 use Prim.Native.Nat.{ℕ, _≤_}
 use native.Mathlib.Omega.{arith}
 use mathlib.Core.Path.{_≡_, refl, sym, ap, subst}
-use mathlib.Core.List.{List, [], _∷_, _++_, List·Memᴰ, List·Memᴰ·head, List·Memᴰ·tail, List·Memᴰ·cases-cons, List·Memᴰ·not-nil}
+use mathlib.Core.List.{List·Memᴰ, List·Memᴰ·tail, List·Memᴰ·cases-cons, List·Memᴰ·not-nil, List·Memᴰ·append-cases}
 use mathlib.Core.Logic.{_⊎_, inl, inr, ⊎-elim}
 use mathlib.Core.Option.{Option, none, some}
 use Rattle.units.specs.declared.labels.RoundLabel.{RoundLabel}
@@ -18,10 +18,6 @@ use Rattle.group.specs.Premises.{Meters, Kept, On, here, next, Run}
 -- what is confirmed is stored
 abbrev Stored : World → Type 0
 Stored w = (x : Mark) → List·Memᴰ x (w .confirmed) → List·Memᴰ x (w .stored)
-
-either {ℓ} : {X : Type ℓ} (x : X) (l m : List X) → List·Memᴰ x (l ++ m) → List·Memᴰ x l ⊎ List·Memᴰ x m
-either x [] m h = inr h
-either x (y ∷ l) m h = elim (List·Memᴰ·cases-cons h) [ inl e ↦ inl (List·Memᴰ·head e) | inr n ↦ ⊎-elim (λ k. inl (List·Memᴰ·tail k)) (λ k. inr k) (either x l m n) ]
 
 -- F alone confirms
 by-floor : (i : ℕ) (x : Mark) (h : Head) → List·Memᴰ x (confirms i h) → (label : RoundLabel) × (h ≡ Floor label) × (x ≡ mark i label)
@@ -44,7 +40,7 @@ module _ (s : Numbers) (meters : Meters) where
   stored-handed w f i a k none = f
   stored-handed w f i a k (some c) = λ x m.
       ⊎-elim (λ p. let q = by-floor i x (a .head) p in subst (λ (y : Mark). List·Memᴰ y (w .stored)) (sym (q .2)) (k .stored-first (q .0) (q .1))) (λ p. f x p)
-      (either x (confirms i (a .head)) (w .confirmed) m)
+      (List·Memᴰ·append-cases (confirms i (a .head)) m)
 
   stored-after : (w : World) → Stored w → (e : Event) → On (Kept meters) w e → Stored (after s w e)
   stored-after w f (hand i a) k = stored-handed w f i a k (w .up i)

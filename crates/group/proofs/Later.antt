@@ -16,7 +16,7 @@ continued run here = run
 continued run (next on e p) = next (continued run on) e p
 
 module _ (s : Numbers) (w : World) (x : Message) (m : List·Memᴰ x (w .sent)) where
-  pub handed-keeps : (i : ℕ) (a : Message) (u : Option Controller) → List·Memᴰ x (handed s w i a u .sent)
+  handed-keeps : (i : ℕ) (a : Message) (u : Option Controller) → List·Memᴰ x (handed s w i a u .sent)
   handed-keeps i a none = m
   handed-keeps i a (some c) = still-sent s (stepped s c a) (w .sent) x m
 

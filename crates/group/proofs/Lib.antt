@@ -13,5 +13,6 @@ pub mod Wire
 pub mod Stations
 pub mod Examples
 pub mod WireExamples
+pub mod StationExamples
 pub mod Witnesses
 pub mod Schedules

@@ -14,6 +14,7 @@ use Rattle.units.specs.declared.labels.StateLabel.{StateLabel}
 use Rattle.units.specs.declared.settings.Numbers.{Numbers}
 use Rattle.units.specs.Mask.{inMask}
 use Rattle.units.proofs.Every.{and-right}
+use Rattle.units.proofs.Masks.{no-run}
 use Rattle.vote.specs.declared.digest.Digest.{Digest}
 use Rattle.vote.specs.declared.judge.Poll.the-variants.{Won}
 use Rattle.vote.specs.declared.votes.Ballot.the-variants.{Cast}
@@ -40,7 +41,7 @@ use Rattle.controller_laws.specs.Outcomes.SentBy.{query, reply, advert, update,
 use Rattle.controller_laws.specs.Outcomes.StateBy.{kept, adopted, issued as by-issue, started as by-start}
 use Rattle.controller_laws.specs.Sendings.{IsSent}
 use Rattle.controller_laws.proofs.Changes.{readings-from, votes-from, no-vote}
-use Rattle.controller_laws.proofs.Held.{empty-mask, merged-place}
+use Rattle.controller_laws.proofs.Held.{merged-place}
 use Rattle.controller_laws.proofs.Masks.{in-and}
 use Rattle.controller_laws.proofs.Outcomes.{sent-by, sent-head, state-by}
 use Rattle.group.specs.World.{World, hand, store, crash, withUp, rising, answered, handed}
@@ -81,7 +82,7 @@ module _ (s : Numbers) (meters : Meters) (sent : List Message) (lines : (x : Mes
   -- a start
   fine-start : (own : ℕ) (low : RoundLabel) → Fine (startOf s own low)
   unfolding startOf
-  fine-start own low = record { reads = λ i k e. absurd (true≢false (sym e ∙ empty-mask i)); votes = λ j d e. no-vote j e; state = at-start }
+  fine-start own low = record { reads = λ i k e. absurd (true≢false (sym e ∙ no-run i)); votes = λ j d e. no-vote j e; state = at-start }
 
   -- ---- one step
   module _ (c : Controller) (f : Fine c) (a : Message) (h : Heard a) (ours : (j : ℕ) (label : RoundLabel) (d : Digest) → IsSent (stepped s c a) (Vote j label d) → Released sent j label d)
@@ -144,7 +145,7 @@ module _ (s : Numbers) (meters : Meters) (sent : List Message) (lines : (x : Mes
         from (by-issue d t o) = settled-state d t (issues (c .own) (c .label) d o)
         from (by-start p q) = canon-as (sym p) (sym q) at-start
 
-    pub fine-on : Fine n
+    fine-on : Fine n
     fine-on = record { reads = reads-on; votes = votes-on; state = state-on }
 
     -- R that goes out has the meters' readings
@@ -191,7 +192,7 @@ module _ (s : Numbers) (meters : Meters) (sent : List Message) (lines : (x : Mes
     said-issue (vote e z) j l d q = let z : _≡_ {A = ℕ} 0 1 = cc in absurd (omega arith)
 
     -- what goes out is true
-    pub says-on : (x : Message) → Fresh s (stepped s c a) x → Says x
+    says-on : (x : Message) → Fresh s (stepped s c a) x → Says x
     says-on x g =
         let w = sent-by s c a (g .head) (g .out) in
         subst Says (sym (g .whole))

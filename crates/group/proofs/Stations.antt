@@ -1,7 +1,7 @@
 -- DEMAND 3 OF STATIONS: a run of stations is a run over lines. Assumes nothing beyond the premises.
 use Prim.Native.Nat.{ℕ}
 use mathlib.Core.Path.{_≡_, refl, sym, ap, subst, _∙_}
-use mathlib.Core.Bool.{true, false}
+use mathlib.Core.Bool.{true}
 use mathlib.Core.List.{List, [], _∷_, _++_, append-nil, append-assoc, List·Memᴰ, List·Memᴰ·head, List·Memᴰ·tail, List·Memᴰ·cases-cons, List·Memᴰ·not-nil}
 use mathlib.Core.Logic.{_⊎_, inl, inr}
 use mathlib.Core.Option.{Option, none, some}
@@ -26,7 +26,6 @@ use Rattle.message.specs.declared.value.Message.{Message}
 use Rattle.message.specs.Head.{headFits}
 use Rattle.message.specs.Message.{plain}
 use Rattle.fields.proofs.Cases.{by-test, absurd-by}
-use Rattle.lines.specs.declared.kind.Kind.the-variants.{Refused as OfRefused}
 use Rattle.lines.specs.declared.kind.Found.the-variants.{Known}
 use Rattle.lines.specs.declared.read.Line.{Line}
 use Rattle.lines.specs.Reading.{readLine}
@@ -55,9 +54,9 @@ use Rattle.session.proofs.Fits.{start-fits, turn-fits}
 use Rattle.session.proofs.Lines.{lines-feed, lines-none}
 use Rattle.session.proofs.Program.{first-start}
 use Rattle.session.proofs.Sent.{sent-back}
-use Rattle.group.specs.World.{Mark, put, confirms, begun, rising}
+use Rattle.group.specs.World.{Mark, put, confirms, rising}
 use Rattle.group.specs.Premises.{Meters}
-use Rattle.group.specs.Wire.{Wire, silent, spelling, spelledBy, takes, afterwards, OnLine, OnwardLines, readAs, Demand3Lines}
+use Rattle.group.specs.Wire.{Wire, silent, spelling, spelledBy, takes, afterwards, OnwardLines, Demand3Lines}
 use Rattle.group.specs.Wire as Lines
 use Rattle.group.specs.Stations.{Stations, still, Doing, hand, store, crash, boot, seat, puts, led, confirming, turned, later, controllerAt, controllerIn, keptIf, spoken, wireIn, Asked, Booted, OnStation, OnwardStations, here, next, Demand3Stations}
 use Rattle.group.proofs.Wire.{demand3-lines}
@@ -102,7 +101,7 @@ module _ (s : Numbers) where
   kept-rest (Denied why) l ls x m = m
 
   -- a written line that is read is among the spoken
-  pub in-spoken : (sent : List (List ℕ)) (x : List ℕ) → List·Memᴰ x sent → readLine (s .group) x .verdict ≡ Taken → List·Memᴰ x (spoken s sent)
+  in-spoken : (sent : List (List ℕ)) (x : List ℕ) → List·Memᴰ x sent → readLine (s .group) x .verdict ≡ Taken → List·Memᴰ x (spoken s sent)
   unfolding spoken
   in-spoken [] x m t = absurd (List·Memᴰ·not-nil m)
   in-spoken (l ∷ sent) x m t =
@@ -140,7 +139,7 @@ module _ (s : Numbers) where
   spoken-spelled n (One head) old f = rw (f head refl)
 
   -- what a step's lines are on the wire
-  pub spoken-step : (c : Controller) (a : Message) (old : List (List ℕ)) → spoken s (puts (linesOf (answerText s (stepped s c a))) old) ≡ spelledBy s (stepped s c a) (spoken s old)
+  spoken-step : (c : Controller) (a : Message) (old : List (List ℕ)) → spoken s (puts (linesOf (answerText s (stepped s c a))) old) ≡ spelledBy s (stepped s c a) (spoken s old)
   spoken-step c a old =
       let r = stepped s c a in
       ap (spoken s) (puts-answer r old)
@@ -159,25 +158,26 @@ abbrev sureOf : ℕ → Core → List ℕ → List Mark
 sureOf i c line = confirming i (saidBy c line .head) (readLine (groupIn c) line .verdict) (c .stage)
 
 data Way (c : Core) (line : List ℕ) : Type 0 where
-  refuses : (why : Refusal) → turn c line ≡ refusing c why → ((i : ℕ) → sureOf i c line ≡ []) → Way c line
+  refuses : (why : Refusal) → turn c line ≡ refusing c why → ((i : ℕ) → sureOf i c line ≡ []) → ((w : Wire) (i : ℕ) → w .up i ≡ controllerIn (some c) → afterwards (numbersIn c) w (Lines.hand i line) ≡ w)
+      → Way c line
   rises : (own : ℕ) (floor : RoundLabel) → c .stage ≡ Waiting → readLine (groupIn c) line .verdict ≡ Taken → saidBy c line .head ≡ Start own floor → Way c line
   steps : c .stage ≡ Running → readLine (groupIn c) line .verdict ≡ Taken → Way c line
 
-waits-way : (c : Core) (h : Head) → (waitsFor c h ≡ refusing c Closed) ⊎ ((own : ℕ) × (floor : RoundLabel) × (h ≡ Start own floor))
+waits-way : (c : Core) (h : Head) → ((waitsFor c h ≡ refusing c Closed) × (rising (numbersIn c) h ≡ none)) ⊎ ((own : ℕ) × (floor : RoundLabel) × (h ≡ Start own floor))
 unfolding waitsFor
-waits-way c (Reading label run raw) = inl refl
-waits-way c (Query sender label mask) = inl refl
-waits-way c (Reply sender label mask) = inl refl
-waits-way c (Advert sender state) = inl refl
-waits-way c (Update sender state) = inl refl
-waits-way c (Vote sender label digest) = inl refl
-waits-way c (Setpoints sender label digest) = inl refl
-waits-way c (Due label) = inl refl
-waits-way c (CollectingEnds label) = inl refl
-waits-way c (VotingEnds label) = inl refl
-waits-way c (Floor label) = inl refl
+waits-way c (Reading label run raw) = inl (refl, refl)
+waits-way c (Query sender label mask) = inl (refl, refl)
+waits-way c (Reply sender label mask) = inl (refl, refl)
+waits-way c (Advert sender state) = inl (refl, refl)
+waits-way c (Update sender state) = inl (refl, refl)
+waits-way c (Vote sender label digest) = inl (refl, refl)
+waits-way c (Setpoints sender label digest) = inl (refl, refl)
+waits-way c (Due label) = inl (refl, refl)
+waits-way c (CollectingEnds label) = inl (refl, refl)
+waits-way c (VotingEnds label) = inl (refl, refl)
+waits-way c (Floor label) = inl (refl, refl)
 waits-way c (Start own floor) = inr (own, floor, refl)
-waits-way c (Refused number) = inl refl
+waits-way c (Refused number) = inl (refl, refl)
 
 wait-turn : (c : Core) (line : List ℕ) (stage : Stage) (v : Verdict) → stage ≡ Waiting → readLine (groupIn c) line .verdict ≡ v
     → turnBy stepping c line stage ≡ hears (λ a. waitsFor c (a .head)) c (saidBy c line) v
@@ -192,37 +192,53 @@ run-turn c line stage v e ev = rw e (ap (hears (stepping c) c (saidBy c line)) e
 unsure : (i : ℕ) (h : Head) (v : Verdict) (stage : Stage) → stage ≡ Waiting → confirming i h v stage ≡ []
 unsure i h v stage e = rw e
 
+pub put-same : (f : ℕ → Option Controller) (i j : ℕ) → put f i (f i) j ≡ f j
+unfolding put pick
+put-same f i j = by-test (eqb j i) (λ t. rw t (ap f (sym (eqb-true j i t)))) (λ t. rw t)
+
+hears-as : (s : Numbers) (w : Wire) (i : ℕ) (a : Message) (v : Verdict) (u : Option Controller) → v ≡ Taken → w .up i ≡ u → Lines.hears s w i a v ≡ takes s w i a u
+hears-as s w i a v u e q = rw (e, q)
+
+-- a message that is not B, to a number whose program waits for one
+unread : (s : Numbers) (w : Wire) (i : ℕ) (a : Message) (v : Verdict) → v ≡ Taken → w .up i ≡ none → rising s (a .head) ≡ none → Lines.hears s w i a v ≡ w
+unread s w i a v e n r =
+    hears-as s w i a v none e n
+    ∙ (λ k. record { up = λ j. (ap (λ (x : Option Controller). put (w .up) i x j) (r ∙ sym n) ∙ put-same (w .up) i j) k; sent = w .sent; stored = w .stored; confirmed = w .confirmed })
+
 way : (c : Core) (line : List ℕ) (stage : Stage) → c .stage ≡ stage → Past stage → (v : Verdict) → readLine (groupIn c) line .verdict ≡ v → Way c line
 unfolding hears
 way c line AtSettings e p v ev = absurd p
 way c line Waiting e p Taken ev =
     elim (waits-way c (saidBy c line .head)) [
-      | inl q ↦ refuses Closed (wait-turn c line (c .stage) Taken e ev ∙ q) (λ i. unsure i (saidBy c line .head) (readLine (groupIn c) line .verdict) (c .stage) e)
+      | inl q ↦ refuses Closed (wait-turn c line (c .stage) Taken e ev ∙ q .0) (λ i. unsure i (saidBy c line .head) (readLine (groupIn c) line .verdict) (c .stage) e)
+          (λ w i u. unread (numbersIn c) w i (saidBy c line) _ ev (u ∙ ap (controllerAt c) e) (q .1))
       | inr q ↦ rises (q .0) (q .1) e ev (q .2)
     ]
 way c line Waiting e p (Denied why) ev =
     refuses why (wait-turn c line (c .stage) (Denied why) e ev) (λ i. unsure i (saidBy c line .head) (readLine (groupIn c) line .verdict) (c .stage) e)
+    (λ w i u. ap (Lines.hears (numbersIn c) w i (saidBy c line)) ev)
 way c line Running e p Taken ev = steps e ev
 way c line Running e p (Denied why) ev =
     refuses why (run-turn c line (c .stage) (Denied why) e ev)
     (λ i. ap (confirming i (saidBy c line .head) (readLine (groupIn c) line .verdict)) e ∙ ap (λ (x : Verdict). confirming i (saidBy c line .head) x Running) ev)
+    (λ w i u. ap (Lines.hears (numbersIn c) w i (saidBy c line)) ev)
 way c line Ended e p v ev = absurd p
 
 -- ---- what holds of every program that runs
-record Fine (s : Numbers) (c : Core) : Type 0 where
+pub record Fine (s : Numbers) (c : Core) : Type 0 where
   pub settings : numbersIn c ≡ s
   pub fits : CoreFits c
   pub past : Past (c .stage)
 
-abbrev FineIn : Numbers → Option Core → Type 0
+abbrev pub FineIn : Numbers → Option Core → Type 0
 FineIn s none = Unit {0}
 FineIn s (some c) = Fine s c
 
-abbrev Sound : Numbers → Stations → Type 0
+abbrev pub Sound : Numbers → Stations → Type 0
 Sound s w = (i : ℕ) → FineIn s (w .up i)
 
 next-past : (c : Core) (line : List ℕ) → Past (c .stage) → Way c line → (numbersIn (turn c line .next) ≡ numbersIn c) × Past (turn c line .next .stage)
-next-past c line p (refuses why e q) = subst (λ (t : Turn). (numbersIn (t .next) ≡ numbersIn c) × Past (t .next .stage)) (sym e) (refl, p)
+next-past c line p (refuses why e q r) = subst (λ (t : Turn). (numbersIn (t .next) ≡ numbersIn c) × Past (t .next .stage)) (sym e) (refl, p)
 next-past c line p (rises own floor s v e) = subst (λ (t : Turn). (numbersIn (t .next) ≡ numbersIn c) × Past (t .next .stage)) (sym (first-start c line own floor s v e)) (refl, tt)
 next-past c line p (steps s v) = subst (λ (t : Turn). (numbersIn (t .next) ≡ numbersIn c) × Past (t .next .stage)) (sym (turn-steps c line s v)) (refl, tt)
 
@@ -243,14 +259,10 @@ seat-fine : (s : Numbers) (up : ℕ → Option Core) (i : ℕ) (x : Option Core)
 unfolding seat pick
 seat-fine s up i x f g j = by-test (eqb j i) (λ t. rw t g) (λ t. rw t (f j))
 
--- ---- a turn is what happens on the wire, or nothing there
+-- ---- a turn is what happens on the wire
 seat-put : (up : ℕ → Option Core) (i : ℕ) (x : Option Core) (j : ℕ) → controllerIn (seat up i x j) ≡ put (λ k. controllerIn (up k)) i (controllerIn x) j
 unfolding seat put pick
 seat-put up i x j = by-test (eqb j i) (λ t. rw t) (λ t. rw t)
-
-put-same : (f : ℕ → Option Controller) (i j : ℕ) → put f i (f i) j ≡ f j
-unfolding put pick
-put-same f i j = by-test (eqb j i) (λ t. rw t (ap f (sym (eqb-true j i t)))) (λ t. rw t)
 
 start-rises : (s : Numbers) (own : ℕ) (floor : RoundLabel) → numbersFit s ≡ true → ltb own (s .group .g) ≡ true → floorFits floor ≡ true → rising s (Start own floor) ≡ some (startOf s own floor)
 unfolding started pick
@@ -262,10 +274,7 @@ start-head s h own floor e f =
     let g : headFits s (Start own floor) ≡ true = subst (λ (x : Head). headFits s x ≡ true) e f in
     (and-left (ltb own (s .g)) (floorFits floor) g, and-right (ltb own (s .g)) (floorFits floor) g)
 
-hears-as : (s : Numbers) (w : Wire) (i : ℕ) (a : Message) (v : Verdict) (u : Option Controller) → v ≡ Taken → w .up i ≡ u → Lines.hears s w i a v ≡ takes s w i a u
-hears-as s w i a v u e q = rw (e, q)
-
-module _ (meters : Meters) (w : Stations) (i : ℕ) (line : List ℕ) (c : Core) (u : w .up i ≡ some c) where
+module _ (w : Stations) (i : ℕ) (line : List ℕ) (c : Core) (u : w .up i ≡ some c) where
   abbrev s : Numbers
   s = numbersIn c
 
@@ -283,37 +292,28 @@ module _ (meters : Meters) (w : Stations) (i : ℕ) (line : List ℕ) (c : Core)
         confirmed = sure ++ w .confirmed;
       }
 
-  abbrev Follows : Stations → Type 0
-  Follows v = OnwardLines s meters (wireIn s w) (wireIn s v)
-
-  one-step : (v : Stations) → OnLine s meters (wireIn s w) (Lines.hand i line) → afterwards s (wireIn s w) (Lines.hand i line) ≡ wireIn s v → Follows v
-  one-step v k e = subst (OnwardLines s meters (wireIn s w)) e (Lines.next Lines.here (Lines.hand i line) k)
-
   no-step : (why : Refusal) → wireIn s w ≡ wireIn s (made (refusing c why) [])
   no-step why =
       sym (wire-made (refusing c why) [] (controllerIn (w .up i)) (spoken s (w .sent)) (ap controllerIn (sym u)) (spoken-x s why (w .sent))
       ∙ (λ k. record { up = λ j. put-same (wireIn s w .up) i j k; sent = spoken s (w .sent); stored = w .stored; confirmed = w .confirmed }))
 
-  follow : OnLine s meters (wireIn s w) (Lines.hand i line) → CoreFits c → Way c line → Follows (made (turn c line) (sureOf i c line))
-  follow k f (refuses why e q) =
-      subst (OnwardLines s meters (wireIn s w)) (no-step why ∙ sym (λ t. wireIn s (made (e t) (q i t)))) Lines.here
-  follow k f (rises own floor st v e) =
+  wire-turn : CoreFits c → Way c line → afterwards s (wireIn s w) (Lines.hand i line) ≡ wireIn s (made (turn c line) (sureOf i c line))
+  wire-turn f (refuses why e q r) = r (wireIn s w) i (ap controllerIn u) ∙ no-step why ∙ sym (λ t. wireIn s (made (e t) (q i t)))
+  wire-turn f (rises own floor st v e) =
       let m = told (groupIn c) (saidBy c line) (read-fits (groupIn c) line v) .head in
       let h = start-head (groupIn c) (saidBy c line .head) own floor e m in
       let g : numbersFit s ≡ true = subst (λ (x : Stage). FitsAt c x) st f in
       let r : rising s (saidBy c line .head) ≡ some (startOf s own floor) = ap (rising s) e ∙ start-rises s own floor g (h .0) (h .1) in
       let z : sureOf i c line ≡ [] = ap (confirming i (saidBy c line .head) (readLine (groupIn c) line .verdict)) st in
-      one-step (made (turn c line) (sureOf i c line)) k
-      (hears-as s (wireIn s w) i (saidBy c line) _ none v (ap controllerIn u ∙ ap (controllerAt c) st)
+      hears-as s (wireIn s w) i (saidBy c line) _ none v (ap controllerIn u ∙ ap (controllerAt c) st)
       ∙ sym ((λ t. wireIn s (made (first-start c line own floor st v e t) (z t)))
-      ∙ wire-made (quiet (runningWith c (startOf s own floor))) [] (rising s (saidBy c line .head)) (spoken s (w .sent)) (sym r) (quiet-sent s (w .sent))))
-  follow k f (steps st v) =
+      ∙ wire-made (quiet (runningWith c (startOf s own floor))) [] (rising s (saidBy c line .head)) (spoken s (w .sent)) (sym r) (quiet-sent s (w .sent)))
+  wire-turn f (steps st v) =
       let z : sureOf i c line ≡ confirms i (saidBy c line .head) =
       ap (confirming i (saidBy c line .head) (readLine (groupIn c) line .verdict)) st ∙ ap (λ (x : Verdict). confirming i (saidBy c line .head) x Running) v in
-      one-step (made (turn c line) (sureOf i c line)) k
-      (hears-as s (wireIn s w) i (saidBy c line) _ (some (c .controller)) v (ap controllerIn u ∙ ap (controllerAt c) st)
+      hears-as s (wireIn s w) i (saidBy c line) _ (some (c .controller)) v (ap controllerIn u ∙ ap (controllerAt c) st)
       ∙ sym ((λ t. wireIn s (made (turn-steps c line st v t) (z t)))
-      ∙ wire-made (answered c (stepBy c line)) (confirms i (saidBy c line .head)) (some (stepBy c line .next)) _ refl (spoken-step s (c .controller) (saidBy c line) (w .sent))))
+      ∙ wire-made (answered c (stepBy c line)) (confirms i (saidBy c line .head)) (some (stepBy c line .next)) _ refl (spoken-step s (c .controller) (saidBy c line) (w .sent)))
 
 module _ (s : Numbers) (meters : Meters) where
   abbrev Follow : Stations → Stations → Type 0
@@ -323,15 +323,16 @@ module _ (s : Numbers) (meters : Meters) where
   joined a Lines.here = a
   joined a (Lines.next b e k) = Lines.next (joined a b) e k
 
+  pub turned-wire : (w : Stations) (i : ℕ) (line : List ℕ) (c : Core) → w .up i ≡ some c → Fine s c → afterwards s (wireIn s w) (Lines.hand i line) ≡ wireIn s (turned w i line (some c))
+  turned-wire w i line c u f =
+      subst (λ (n : Numbers). afterwards n (wireIn n w) (Lines.hand i line) ≡ wireIn n (turned w i line (some c))) (f .settings) (wire-turn w i line c u (f .fits) (way-of c line (f .past)))
+
   handed : (w : Stations) → Sound s w → (i : ℕ) (line : List ℕ) (x : Option Core) → w .up i ≡ x → FineIn s x → Asked s meters w i line x → Follow w (turned w i line x)
   handed w g i line none u f k = (Lines.here, g)
-  handed w g i line (some c) u f k = (
-    subst (λ (n : Numbers). (readLine (n .group) line .verdict ≡ Taken → Lines.KeptLine meters (wireIn n w) i line (readAs n line)) → OnwardLines n meters (wireIn n w) (wireIn n (turned w i line (some c)))) (f .settings)
-        (λ q. follow meters w i line c u q (f .fits) (way-of c line (f .past))) k,
-    seat-fine s (w .up) i (some (turn c line .next)) g (fine-next s c line f),
-  )
+  handed w g i line (some c) u f k =
+      (subst (OnwardLines s meters (wireIn s w)) (turned-wire w i line c u f) (Lines.next Lines.here (Lines.hand i line) k), seat-fine s (w .up) i (some (turn c line .next)) g (fine-next s c line f))
 
-  fallen : (w : Stations) (i : ℕ) (x : Option Core) → controllerIn x ≡ none → afterwards s (wireIn s w) (Lines.crash i) ≡ wireIn s (record { up = seat (w .up) i x; sent = w .sent; stored = w .stored; confirmed = w .confirmed })
+  pub fallen : (w : Stations) (i : ℕ) (x : Option Core) → controllerIn x ≡ none → afterwards s (wireIn s w) (Lines.crash i) ≡ wireIn s (record { up = seat (w .up) i x; sent = w .sent; stored = w .stored; confirmed = w .confirmed })
   fallen w i x e = λ k.
       record {
         up = λ j. sym (seat-put (w .up) i x j ∙ ap (λ (y : Option Controller). put (wireIn s w .up) i y j) e) k;
@@ -352,13 +353,13 @@ module _ (s : Numbers) (meters : Meters) where
     seat-fine s (w .up) i (some (led coreStart lines)) g (booted lines b),
   )
 
-  follows : {w v : Stations} → Sound s w → OnwardStations s meters w v → Follow w v
+  pub follows : {w v : Stations} → Sound s w → OnwardStations s meters w v → Follow w v
   follows g here = (Lines.here, g)
   follows g (next {v} on e k) =
       let a = follows g on in
       let b = happens v (a .1) e k in (joined (a .0) (b .0), b .1)
 
-  spoken-still : wireIn s still ≡ silent
+  pub spoken-still : wireIn s still ≡ silent
   unfolding spoken
   spoken-still = refl
 

@@ -16,7 +16,7 @@ use Rattle.units.specs.declared.settings.Numbers.{Numbers}
 use Rattle.units.specs.Labels.{roundFits}
 use Rattle.units.specs.Settings.{groupFits}
 use Rattle.units.specs.Within.{within}
-use Rattle.units.proofs.Every.{and-left, and-right}
+use Rattle.units.proofs.Every.{and-left, and-right, and-both}
 use Rattle.vote.specs.declared.digest.Digest.{Digest}
 use Rattle.vote.specs.declared.judge.Decision.the-variants.{Decided}
 use Rattle.vote.specs.declared.judge.Poll.the-variants.{Won}
@@ -37,8 +37,9 @@ use Rattle.message.specs.Head.{headFits}
 use Rattle.message.specs.Message.{messageFits}
 use Rattle.controller.specs.State.{nobody}
 use Rattle.controller_laws.proofs.Fits.{told}
-use Rattle.controller_laws.proofs.Valid.{and-both, seats-length, seats-made}
+use Rattle.controller_laws.proofs.Valid.{seats-length, seats-made}
 use Rattle.controller_laws.proofs.Ways.{on-pick, same-round}
+use Rattle.controller_laws.proofs.Changes.{not-missing, same-digest}
 use Rattle.group.specs.Premises.{Released}
 use Rattle.group.specs.Demand.{voteIf, voteOf, released}
 
@@ -55,18 +56,12 @@ unfolding groupFits
 group-high s h = leb-true _ _ (and-right (leb 1 (s .g)) _ (and-left (within 1 7 (s .g)) (within 1 16 (s .m)) h))
 
 -- ---- finding a vote
-not-cast : {A : Type 0} {d : Digest} → Missing ≡ Cast d → A
-not-cast p = let z : _≡_ {A = ℕ} 0 1 = cc in absurd (omega arith)
-
-same-cast : {d e : Digest} → Cast d ≡ Cast e → d ≡ e
-same-cast p = cc
-
 module _ (j : ℕ) (label : RoundLabel) where
   -- what is found is this message's, or was found before
   found-in : (d : Digest) (found : Ballot) (h : Head) → voteIf j label found h ≡ Cast d → (h ≡ Vote j label d) ⊎ (found ≡ Cast d)
   found-in d found (Vote sender l digest) =
       on-pick (λ (b : Ballot). b ≡ Cast d → (Vote sender l digest ≡ Vote j label d) ⊎ (found ≡ Cast d)) (eqb sender j && eqb (l .0) (label .0))
-      (λ t e. inl (hit (eqb-true sender j (and-left (eqb sender j) _ t)) (same-round l label (eqb-true _ _ (and-right (eqb sender j) _ t))) (same-cast e))) (λ t e. inr e)
+      (λ t e. inl (hit (eqb-true sender j (and-left (eqb sender j) _ t)) (same-round l label (eqb-true _ _ (and-right (eqb sender j) _ t))) (same-digest e))) (λ t e. inr e)
     where
       hit : sender ≡ j → l ≡ label → digest ≡ d → Vote sender l digest ≡ Vote j label d
       hit p q r = λ i. Vote (p i) (q i) (r i)
@@ -111,9 +106,9 @@ module _ (j : ℕ) (label : RoundLabel) where
       yes f = let z : true ≡ false = sym (and-both (eq-eqb j j refl) (eq-eqb (label .0) (label .0) refl)) ∙ f in let y : _≡_ {A = ℕ} 0 1 = cc in omega arith
 
   -- a vote that is found was released
-  pub found-released : (sent : List Message) (d : Digest) → voteOf sent j label ≡ Cast d → Released sent j label d
+  found-released : (sent : List Message) (d : Digest) → voteOf sent j label ≡ Cast d → Released sent j label d
   unfolding voteOf
-  found-released [] d e = not-cast e
+  found-released [] d e = not-missing e
   found-released (x ∷ sent) d e =
       ⊎-elim (λ p. record { line = x; among = List·Memᴰ·head refl; said = p })
       (λ p. let q = found-released sent d p in record { line = q .line; among = List·Memᴰ·tail (q .among); said = q .said })
@@ -164,7 +159,7 @@ module _ (s : Numbers) (sent : List Message) (lines : (x : Message) → List·Me
   released-fits j label d p = subst (λ (h : Head). headFits (s .group) h ≡ true) (p .said) (told (s .group) (p .line) (lines (p .line) (p .among)) .head)
 
   -- what a number released is what is found
-  pub released-found : (j : ℕ) (label : RoundLabel) (d : Digest) → Released sent j label d → voteOf sent j label ≡ Cast d
+  released-found : (j : ℕ) (label : RoundLabel) (d : Digest) → Released sent j label d → voteOf sent j label ≡ Cast d
   released-found j label d p =
       let q = any-found j label sent (p .line) d (p .among) (p .said) in
       q .1 ∙ ap Cast (unique j label (q .0) d (found-released j label sent (q .0) (q .1)) p)
@@ -182,10 +177,10 @@ module _ (s : Numbers) (sent : List Message) (lines : (x : Message) → List·Me
       ap (λ (x : Seat). x .ballot) (getD-tab (λ (j : ℕ). record { ballot = voteOf sent j label }) nobody 0 7 j k) ∙ ap (λ (n : ℕ). voteOf sent n label) (zero-add j)
 
   -- a vote in a seat was released by the seat's number
-  pub seated-released : (label : RoundLabel) (j : ℕ) (d : Digest) → getD (seats label) j nobody .ballot ≡ Cast d → Released sent j label d
+  seated-released : (label : RoundLabel) (j : ℕ) (d : Digest) → getD (seats label) j nobody .ballot ≡ Cast d → Released sent j label d
   seated-released label j d e =
       by-cases (decLt j 7) (λ k. found-released j label sent d (sym (seat-is label j k) ∙ e))
-      (λ n. not-cast (sym (ap (λ (x : Seat). x .ballot) (List·getD-eq-default (seats label) nobody {n = j} (omega (arith, seats-are label)))) ∙ e))
+      (λ n. not-missing (sym (ap (λ (x : Seat). x .ballot) (List·getD-eq-default (seats label) nobody {n = j} (omega (arith, seats-are label)))) ∙ e))
 
   seat-in-range : (label : RoundLabel) (i : ℕ) (b : Ballot) → getD (seats label) i nobody .ballot ≡ b → seatFits (ltb i (s .group .g)) (s .group .m) label b ≡ true
   unfolding seatFits
@@ -193,12 +188,12 @@ module _ (s : Numbers) (sent : List Message) (lines : (x : Message) → List·Me
   seat-in-range label i (Cast d) e = let q = vote-fits (s .group) i label d (released-fits i label d (seated-released label i d e)) in and-both (q .0) (q .2)
 
   -- the votes released for a label are in range
-  pub released-in-range : (label : RoundLabel) → groupFits (s .group) ≡ true → roundFits label ≡ true → votesFit (released s sent label) ≡ true
+  released-in-range : (label : RoundLabel) → groupFits (s .group) ≡ true → roundFits label ≡ true → votesFit (released s sent label) ≡ true
   unfolding votesFit released
   released-in-range label g r = and-both (and-both g r) (seats-made (s .group) label (seats label) (seats-are label) (λ i k. seat-in-range label i (getD (seats label) i nobody .ballot) refl))
 
   -- what a number released stands in its seat
-  pub in-seat : (label : RoundLabel) → groupFits (s .group) ≡ true → (j : ℕ) (d : Digest) → Released sent j label d → getD (seats label) j nobody .ballot ≡ Cast d
+  in-seat : (label : RoundLabel) → groupFits (s .group) ≡ true → (j : ℕ) (d : Digest) → Released sent j label d → getD (seats label) j nobody .ballot ≡ Cast d
   in-seat label g j d p =
       let q = vote-fits (s .group) j label d (released-fits j label d p) in
       seat-is label j (omega (arith, ltb-true j (s .group .g) (q .0), group-high (s .group) g)) ∙ released-found j label d p

@@ -1,7 +1,7 @@
 -- THE WEAKER PREMISE IS ENOUGH: every run that keeps the premises as they are worded keeps the weaker ones. Assumes nothing beyond the premises.
 use Prim.Native.Nat.{ℕ}
 use mathlib.Core.Path.{_≡_, refl, sym, ap, subst, _∙_}
-use mathlib.Core.List.{List, [], _∷_, _++_, List·Memᴰ, List·Memᴰ·head, List·Memᴰ·tail, List·Memᴰ·not-nil}
+use mathlib.Core.List.{_++_, List·Memᴰ, List·Memᴰ·head, List·Memᴰ·not-nil, Memᴰ·append-right}
 use mathlib.Core.Logic.{_⊎_, ⊎-elim}
 use mathlib.Core.Option.{Option, none, some}
 use Rattle.units.specs.declared.labels.RoundLabel.{RoundLabel}
@@ -22,10 +22,6 @@ use Rattle.group.proofs.Once.{OwnVote, own-vote, Once, once}
 abbrev pub Confirmed : World → Type 0
 Confirmed w = (i : ℕ) (label : RoundLabel) (d : Digest) → Released (w .sent) i label d → List·Memᴰ (mark i label) (w .confirmed)
 
-pub on-right {ℓ} : {X : Type ℓ} (x : X) (l m : List X) → List·Memᴰ x m → List·Memᴰ x (l ++ m)
-on-right x [] m h = h
-on-right x (y ∷ l) m h = List·Memᴰ·tail (on-right x l m h)
-
 -- R, U and D are among the lines that controllers send each other
 exchanged : (h : Head) → Telling h → Exchanged h
 exchanged (Reply sender label mask) t = tt
@@ -45,7 +41,7 @@ exchanged (Refused number) t = absurd t
 module _ (s : Numbers) (meters : Meters) where
   confirmed-answered : (w : World) → Once s meters w → Confirmed w → (i : ℕ) (c : Controller) → w .up i ≡ some c → (a : Message) → Confirmed (answered s w i (a .head) (stepped s c a))
   confirmed-answered w o f i c at a j label d p =
-      ⊎-elim (λ q. now (own-vote s c a j label d q)) (λ q. on-right (mark j label) (confirms i (a .head)) (w .confirmed) (f j label d q))
+      ⊎-elim (λ q. now (own-vote s c a j label d q)) (λ q. Memᴰ·append-right (confirms i (a .head)) (f j label d q))
       (released-by s (stepped s c a) (w .sent) j label d p)
     where
       now : OwnVote c (a .head) (stepped s c a .next) j label d → List·Memᴰ (mark j label) (confirms i (a .head) ++ w .confirmed)

@@ -2,8 +2,7 @@
 use Prim.Native.Nat.{ℕ}
 use native.Mathlib.Omega.{arith}
 use mathlib.Core.Path.{_≡_, refl, sym, ap, subst, _∙_}
-use mathlib.Core.List.{List, [], _∷_, map, List·Memᴰ, List·Memᴰ·head, List·Memᴰ·tail, List·Memᴰ·cases-cons, List·Memᴰ·not-nil}
-use mathlib.Core.Logic.{inl, inr}
+use mathlib.Core.List.{List, [], _∷_, map, List·Memᴰ, List·Memᴰ·head, List·Memᴰ·tail, Memᴰ·of-map}
 use mathlib.Core.Option.{Option, none, some}
 use Rattle.units.specs.declared.labels.RoundLabel.{RoundLabel}
 use Rattle.units.specs.declared.refusal.Verdict.{Verdict}
@@ -42,10 +41,6 @@ use Rattle.group.proofs.Theorem.{demand3}
 use Rattle.group.proofs.Weaker.{weaker}
 
 -- ---- what is sent
-in-map {ℓ ℓ′} : {X : Type ℓ} {Y : Type ℓ′} (f : X → Y) (l : List X) (y : Y) → List·Memᴰ y (map f l) → (x : X) × List·Memᴰ x l × (y ≡ f x)
-in-map f [] y m = absurd (List·Memᴰ·not-nil m)
-in-map f (x ∷ l) y m = elim (List·Memᴰ·cases-cons m) [ inl e ↦ (x, List·Memᴰ·head refl, e) | inr n ↦ (let q = in-map f l y n in (q .0, List·Memᴰ·tail (q .1), q .2)) ]
-
 no-x : {s : Numbers} {c : Controller} {h : Head} {n : Controller} {k : Head} → SentBy s c h n k → (number : ℕ) → k ≡ Refused number → ⊥
 no-x (query e) number q = let z : _≡_ {A = ℕ} 0 1 = cc in omega arith
 no-x (reply mask e) number q = let z : _≡_ {A = ℕ} 0 1 = cc in omega arith
@@ -96,8 +91,8 @@ module _ (s : Numbers) (meters : Meters) where
   -- a line that was sent is read as the message that was sent
   genuine : {w : World} → Run s (Kept meters) w → (line : List ℕ) → List·Memᴰ line (wireOf w .sent) → List·Memᴰ (readAs s line) (w .sent)
   genuine {w} run line m =
-      let q = in-map (spellLine (s .group)) (w .sent) line m in
-      let e : readAs s line ≡ q .0 = ap (λ (l : List ℕ). readAs s l) (q .2) ∙ ap (λ (l : Line). l .message) (read-back run (q .0) (q .1)) in
+      let q = Memᴰ·of-map (spellLine (s .group)) (w .sent) m in
+      let e : readAs s line ≡ q .0 = ap (λ (l : List ℕ). readAs s l) (sym (q .2)) ∙ ap (λ (l : Line). l .message) (read-back run (q .0) (q .1)) in
       subst (λ (x : Message). List·Memᴰ x (w .sent)) (sym e) (q .1)
 
   kept : {w : World} → Run s (Kept meters) w → (i : ℕ) (line : List ℕ) → KeptLine meters (wireOf w) i line (readAs s line) → Kept meters w i (readAs s line)
@@ -159,9 +154,9 @@ module _ (s : Numbers) (meters : Meters) where
         let a = genuine run x m in
         let b = genuine all y n in
         let z = demand3 s meters run on .same (readAs s x) (readAs s y) a b i j label d e p q in
-        let g = in-map (spellLine (s .group)) (v .sent) y n in
-        let h : g .0 ≡ readAs s y = sym (ap (λ (l : List ℕ). readAs s l) (g .2) ∙ ap (λ (l : Line). l .message) (read-back all (g .0) (g .1))) in
-        g .2 ∙ ap (spellLine (s .group)) (h ∙ same-but (readAs s x) (readAs s y) i j label d e (sent-bare run (readAs s x) a i label d p) (sent-bare all (readAs s y) b j label e q) (z .0) (z .1))
+        let g = Memᴰ·of-map (spellLine (s .group)) (v .sent) n in
+        let h : g .0 ≡ readAs s y = sym (ap (λ (l : List ℕ). readAs s l) (sym (g .2)) ∙ ap (λ (l : Line). l .message) (read-back all (g .0) (g .1))) in
+        sym (g .2) ∙ ap (spellLine (s .group)) (h ∙ same-but (readAs s x) (readAs s y) i j label d e (sent-bare run (readAs s x) a i label d p) (sent-bare all (readAs s y) b j label e q) (z .0) (z .1))
 
     lines-demand : Demand3Lines s meters (wireOf w) (wireOf v)
     lines-demand = record { right = lines-right; same = lines-same }

@@ -3,13 +3,12 @@ use Prim.Native.Nat.{ℕ, _-_}
 use native.Mathlib.Omega.{arith}
 use mathlib.Core.Path.{_≡_, sym, ap, subst, _∙_}
 use mathlib.Core.Bool.{true}
-use mathlib.Core.List.{List, [], _∷_, map, List·Memᴰ, List·Memᴰ·head, List·Memᴰ·tail, List·Memᴰ·cases-cons, List·Memᴰ·not-nil}
-use mathlib.Core.Logic.{inl, inr}
+use mathlib.Core.List.{List, [], _∷_, Memᴰ·map}
 use lib.Dec.{ltb}
 use lib.ListN.{length}
 use borrow.Author.Tests.{ltb-true}
 use Rattle.units.specs.declared.settings.Numbers.{Numbers}
-use Rattle.units.proofs.Every.{and-left, and-right}
+use Rattle.units.proofs.Every.{and-left, and-right, no-way}
 use Rattle.message.specs.declared.head.Head.{Head}
 use Rattle.message.specs.declared.head.Head.the-variants.{Refused}
 use Rattle.message.specs.declared.value.Message.{Message}
@@ -26,12 +25,8 @@ use Rattle.group.specs.Premises.{Meters, Kept, Run}
 use Rattle.group.specs.Premises as Runs
 use Rattle.group.specs.Wire.{silent, hand, store, crash, hears, KeptLine, OnwardLines, next, readAs}
 use Rattle.group.specs.Scripts.{Act, give, pass, keep, fall, nth, eventOf, played, fairly, fair, allFair, writable, allWritable}
-use Rattle.group.proofs.Examples.{at-place, not-true, fair-keeps}
+use Rattle.group.proofs.Examples.{at-place, fair-keeps}
 use Rattle.group.proofs.Wire.{read-back, wireOf, takes-as}
-
-mapped {ℓ ℓ′} : {X : Type ℓ} {Y : Type ℓ′} (f : X → Y) (l : List X) (x : X) → List·Memᴰ x l → List·Memᴰ (f x) (map f l)
-mapped f [] x m = absurd (List·Memᴰ·not-nil m)
-mapped f (y ∷ l) x m = elim (List·Memᴰ·cases-cons m) [ inl e ↦ List·Memᴰ·head (ap f e) | inr n ↦ List·Memᴰ·tail (mapped f l x n) ]
 
 module _ (s : Numbers) (meters : Meters) where
   -- a message that is read back from its line is handed as that line
@@ -42,7 +37,7 @@ module _ (s : Numbers) (meters : Meters) where
         (record {
           one-reading = k .one-reading;
           own-number = k .own-number;
-          not-made-up = λ t. mapped (spellLine (s .group)) (w .sent) a (k .not-made-up t);
+          not-made-up = λ t. Memᴰ·map (spellLine (s .group)) (k .not-made-up t);
           stored-first = k .stored-first;
           highest-floor = k .highest-floor;
         })
@@ -57,7 +52,7 @@ module _ (s : Numbers) (meters : Meters) where
   given-back : (w : World) (i : ℕ) (head : Head) → fairly meters w i head ≡ true → messageFits (s .group) (plain head) ≡ true
       → readLine (s .group) (spellLine (s .group) (plain head)) ≡ taken (plain head)
   unfolding plain fairly
-  given-back w i head f m = read-write (s .group) (plain head) m (not-x head (λ number q. not-true (sym (ap (fairly meters w i) q) ∙ f)))
+  given-back w i head f m = read-write (s .group) (plain head) m (not-x head (λ number q. no-way (sym (ap (fairly meters w i) q) ∙ f)))
 
   act-line : (w : World) → Run s (Kept meters) w → (x : Act) → fair meters w x ≡ true → writable s x ≡ true → OnwardLines s meters silent (wireOf s meters w)
       → OnwardLines s meters silent (wireOf s meters (after s w (eventOf w x)))

@@ -19,11 +19,13 @@ use Rattle.filter.specs.Compute.{newState, setPoints}
 use Rattle.message.specs.Head.{headFits, carried}
 use Rattle.message.specs.Message.{plain, messageFits}
 use Rattle.message.specs.Readings.{readingsFit}
+use Rattle.message.specs.Settings.{certificateFits, settingsFit}
 use Rattle.plan.specs.Plan.{afterwards}
 use Rattle.plan.specs.Readings.{collected, sameRound, planReading, answered, inQuery, planQuery, inReply, planReply}
 use Rattle.plan.specs.States.{planAdvert, overtaken, adopted, inUpdate, planUpdate}
 use Rattle.plan.specs.Timers.{missingRuns, asking, inDue, planDue, inEnds, planEnds}
 use Rattle.plan.specs.Votes.{inFloor, planFloor, inSeat, inDigest, planDigest, possessed, chosenPlan, judged}
+use Rattle.lines.specs.Lists.{column}
 use Rattle.controller.specs.State.{phaseFits, controllerFits}
 use Rattle.controller.specs.Start.{startEstimates, startOf, started}
 use Rattle.controller.specs.Merge.{runBit, agrees, merged}
@@ -34,12 +36,13 @@ use Rattle.controller_laws.specs.Session.{estimateBits, line, numbers}
 use Rattle.group.specs.World.{empty, put}
 use Rattle.group.specs.Premises.{Kept, here, Run}
 use Rattle.group.specs.Scripts.{played, exchanged, marked, highest, fairly, fair, allFair, writable, allWritable, inOrder, saying}
-use Rattle.group.specs.Examples.{steady, session, sessionSays, three, returning, returningSays}
+use Rattle.group.specs.Examples.{steady, session, sessionSays, three, returning, returningSays, certified}
 use Rattle.group.specs.Wire.{OnwardLines, silent}
 use Rattle.group.specs.Wire as Lines
 use Rattle.group.proofs.Examples.{scripted}
 use Rattle.group.proofs.Wire.{wireOf}
 use Rattle.group.proofs.WireExamples.{scripted-lines}
+use Rattle.group.proofs.StationExamples.{Stood, stood}
 
 -- each event keeps the premises
 session-fair : allFair numbers steady empty session ≡ true
@@ -81,3 +84,18 @@ session-lines = scripted-lines numbers steady empty session here Lines.here sess
 
 pub returning-lines : OnwardLines three steady silent (wireOf three steady (played three empty returning))
 returning-lines = scripted-lines three steady empty returning here Lines.here returning-fair returning-written
+
+-- and of stations, which have the session's certificates
+pub session-certified : settingsFit (certified numbers) ≡ true
+unfolding numbers column every groupFits runsFit numbersFit certificateFits settingsFit
+session-certified = refl
+
+pub returning-certified : settingsFit (certified three) ≡ true
+unfolding three column every groupFits runsFit numbersFit certificateFits settingsFit
+returning-certified = refl
+
+pub session-stations : Stood (certified numbers) session-certified steady (wireOf numbers steady (played numbers empty session))
+session-stations = stood (certified numbers) session-certified steady session-lines
+
+pub returning-stations : Stood (certified three) returning-certified steady (wireOf three steady (played three empty returning))
+returning-stations = stood (certified three) returning-certified steady returning-lines

@@ -9,7 +9,9 @@ use Rattle.units.specs.declared.settings.Numbers.{Numbers}
 use Rattle.units.specs.Pick.{pick}
 use Rattle.vote.specs.declared.digest.Digest.{Digest}
 use Rattle.message.specs.declared.head.Head.the-variants.{Reading, Query, Reply, Advert, Update, Vote, Setpoints, Due, CollectingEnds, Floor, Start}
-use Rattle.controller_laws.specs.Session.{Line, sends}
+use Rattle.message.specs.declared.settings.Settings.{Settings}
+use Rattle.lines.specs.Settling.{noOne, certificateOf}
+use Rattle.controller_laws.specs.Session.{Line, sends, sized}
 use Rattle.group.specs.Premises.{Meters}
 use Rattle.group.specs.Scripts.{Act, give, pass, keep, fall}
 
@@ -53,18 +55,14 @@ sessionSays =
     ∷ sends (Update 0 (stateOf 1)) (0x40E8_8760_0000_0000 ∷ 0x4052_C000_0000_0000 ∷ 0x40E8_4CA0_0000_0000 ∷ 0x4052_C000_0000_0000 ∷ [])
     ∷ []
 
+-- "K 0 C-101 1.0047 3" and "K 1 C-102 1.0000 1": the settings with the session's certificates, for stations
+abbrev pub certified : Numbers → Settings
+certified s = record { numbers = s; certificates = certificateOf (67 ∷ 45 ∷ 49 ∷ 48 ∷ 49 ∷ []) ∷ certificateOf (67 ∷ 45 ∷ 49 ∷ 48 ∷ 50 ∷ []) ∷ replicate 14 noOne }
+
 -- ---- one crashes and returns
 -- the same settings for a group of three; controller 2 never starts
 unfoldable pub three : Numbers
-three =
-    record {
-      group = record { g = 3; m = 2 };
-      q = 1;
-      r = 300;
-      p = 99;
-      factors = 10047 ∷ 10000 ∷ replicate 14 0;
-      weights = 3 ∷ 1 ∷ replicate 14 0;
-    }
+three = sized 3
 
 -- Round 1: controller 0 votes, crashes, and is restarted at its floor; its vote still counts, and it takes no reading of round 1 again (8).
 -- Controller 1 votes, gets the D of controller 0, and issues. Round 2: controller 0 asks; U brings it the state of label 1, and R a reading; both vote, and both issue

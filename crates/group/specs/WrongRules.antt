@@ -29,7 +29,7 @@ use Rattle.controller.specs.declared.step.Answer.{Answer}
 use Rattle.controller.specs.State.{briefOf, nobody, controllerFits}
 use Rattle.controller.specs.Effects.{inPhase, adopting, issuing}
 use Rattle.controller.specs.Step.{stepped}
-use Rattle.controller_laws.specs.Session.{Line, sends}
+use Rattle.controller_laws.specs.Session.{Line, sends, sized}
 use Rattle.group.specs.World.{empty}
 use Rattle.group.specs.Scripts.{Act, give, pass, fall}
 use Rattle.group.specs.Examples.{round, bothRuns, three}
@@ -148,15 +148,7 @@ stopsShort s c a =
 
 -- a group of four
 unfoldable pub four : Numbers
-four =
-    record {
-      group = record { g = 4; m = 2 };
-      q = 1;
-      r = 300;
-      p = 99;
-      factors = 10047 ∷ 10000 ∷ replicate 14 0;
-      weights = 3 ∷ 1 ∷ replicate 14 0;
-    }
+four = sized 4
 
 -- controllers 0 and 1 issue label 1; in round 2 they vote for run 0 from that state, 2 and 3 for both runs from the start's. 0 stops at v10's votes; 3 sees the tie
 unfoldable pub tieMissed : List Act

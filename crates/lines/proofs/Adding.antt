@@ -10,6 +10,7 @@ use lib.Seq.{take-suc-set, length-take-le}
 use Rattle.units.specs.declared.settings.Group.{Group}
 use Rattle.units.specs.Mask.{inMask}
 use Rattle.units.specs.Pick.{pick}
+use Rattle.units.proofs.Masks.{no-run}
 use Rattle.message.specs.declared.head.Head.{Head}
 use Rattle.message.specs.declared.head.Head.the-variants.{Reading, Query, Reply, Advert, Update, Vote, Setpoints, Due, CollectingEnds, VotingEnds, Floor, Start, Refused}
 use Rattle.message.specs.Head.{carried}
@@ -17,7 +18,6 @@ use Rattle.fields.proofs.Cases.{by-test}
 use Rattle.lines.specs.declared.numbers.Numbers.{Numbers}
 use Rattle.lines.specs.Lists.{joined}
 use Rattle.lines.specs.Values.{headValues, rawOf}
-use Rattle.lines.proofs.Columns.{no-run}
 
 -- THE HEAD
 pub numbers-in : {head k : Head} (n : ℕ) {vs : List ℕ} (r : Numbers) → head ≡ k → (r .n ≡ n) × (take n (r .v) ≡ vs) × (length (r .v) ≡ 34) → vs ≡ headValues k → n ≡ length vs

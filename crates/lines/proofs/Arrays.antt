@@ -17,12 +17,13 @@ use Rattle.units.specs.Every.{every}
 use Rattle.units.specs.Limits.{rawTop, xTop, varianceTop, targetTop, labelTop}
 use Rattle.units.specs.Mask.{inMask}
 use Rattle.units.specs.Pick.{pick}
-use Rattle.units.proofs.Every.{and-left, and-right, every-at, every-all}
+use Rattle.units.proofs.Every.{every-all}
 use Rattle.floats.specs.Bits.{bitsOf, xBits, varianceBits, targetBits}
 use Rattle.floats.specs.Ranges.{noEstimate, stateFits, targetsFit}
 use Rattle.floats.proofs.Limits.{x-limit, variance-limit, target-limit, limit-back, bits-range, float-back}
 use Rattle.floats.proofs.Places.{estimate-x, estimate-variance, estimate-made, state-length, state-run, state-blank, state-made, targets-length, targets-run, targets-blank, targets-made}
 use Rattle.message.specs.Readings.{readingPlace, readingAt, readingsFit}
+use Rattle.message.proofs.Ranges.{readings-length, readings-place}
 use Rattle.fields.proofs.Cases.{by-test, by-lt}
 use Rattle.lines.specs.Lists.{column, joined}
 use Rattle.lines.specs.Values.{word, tally, readingIn, estimateIn, targetIn, rawOf, floatsOf, targetOf}
@@ -180,22 +181,13 @@ targets-front n vs h = joined-front (targetAt vs) (λ i. i) (drop 4 vs) n refl (
         let a : i < length (drop 4 vs) = omega arith in
         take-suc (drop 4 vs) i 0 a ∙ rw (getD-drop 4 vs i 0)
 
--- FROM ARRAYS IN RANGE to numbers and back
-readings-length : (mask : ℕ) (rs : List ℕ) → readingsFit mask rs ≡ true → length rs ≡ 16
-unfolding readingsFit
-readings-length mask rs e = eqb-true (length rs) 16 (and-left (eqb (length rs) 16) (every (readingAt mask rs) 16) e)
-
-reading-here : (mask : ℕ) (rs : List ℕ) → readingsFit mask rs ≡ true → (i : ℕ) → i < 16 → readingPlace (inMask mask i) (getD rs i 0) ≡ true
-unfolding readingsFit
-reading-here mask rs e i l = every-at (readingAt mask rs) 16 i (and-right (eqb (length rs) 16) (every (readingAt mask rs) 16) e) l
-
 pub reading-range : (mask : ℕ) (rs : List ℕ) → readingsFit mask rs ≡ true → (i : ℕ) → i < 16 → inMask mask i ≡ true → getD rs i 0 ≤ rawTop
-reading-range mask rs e i l t = leb-true (getD rs i 0) rawTop (rw t at (reading-here mask rs e i l))
+reading-range mask rs e i l t = leb-true (getD rs i 0) rawTop (rw t at (readings-place mask rs e i l))
 
 pub readings-back : (mask : ℕ) (rs vs : List ℕ) → readingsFit mask rs ≡ true → ((i : ℕ) → i < 16 → inMask mask i ≡ true → getD vs (3 + rank mask i) 0 ≡ getD rs i 0)
     → column (readingIn mask vs) 16 ≡ rs
 readings-back mask rs vs e h =
-    sym (is-column (readingIn mask vs) 0 16 rs (readings-length mask rs e) (λ i l. place i l (reading-here mask rs e i l) (h i l)))
+    sym (is-column (readingIn mask vs) 0 16 rs (readings-length mask rs e) (λ i l. place i l (readings-place mask rs e i l) (h i l)))
   where
     place : (i : ℕ) → i < 16 → readingPlace (inMask mask i) (getD rs i 0) ≡ true → (inMask mask i ≡ true → getD vs (3 + rank mask i) 0 ≡ getD rs i 0) → getD rs i 0 ≡ readingIn mask vs i
     place i l =

@@ -4,7 +4,7 @@ use mathlib.Core.Path.{_≡_, refl, sym, ap, _∙_}
 use mathlib.Core.List.{List, [], _∷_}
 use mathlib.Core.Bool.{false}
 use native.Mathlib.Omega.{arith}
-use native.Mathlib.Nat.{mod-lt, zero-div}
+use native.Mathlib.Nat.{mod-lt}
 use lib.Count.{ones, ones-cat, ones-le}
 use lib.Dec.{eqb, lit<}
 use lib.ListN.{length, getD, set, replicate, length-append, length-set, length-replicate, getD-replicate, List·getD-append}
@@ -91,6 +91,3 @@ bits-step mask i =
 
 pub bits-few : (mask i : ℕ) → ones (mask % 2 ^ i) ≤ i
 bits-few mask i = ones-le i (mask % 2 ^ i) (mod-lt mask (pow-mono {i = 0} {j = i} (omega arith)))
-
-pub no-run : (i : ℕ) → inMask 0 i ≡ false
-no-run i = rw (zero-div (2 ^ i))

@@ -19,5 +19,6 @@ mod Quantities
 pub mod Meaning
 pub mod Saying
 pub mod RoundTrip
+pub mod Refusing
 pub mod SettingTrip
 pub mod WholeSettings

@@ -21,11 +21,12 @@ use Rattle.message.specs.declared.value.Message.{Message}
 use Rattle.message.specs.Head.{carried}
 use Rattle.message.specs.Message.{plain}
 use Rattle.units.proofs.Every.{and-left, and-right}
+use Rattle.units.proofs.Masks.{no-run}
 use Rattle.lines.specs.declared.kind.Kind.{Kind}
 use Rattle.lines.specs.Lists.{column}
 use Rattle.lines.specs.Table.{runsOf}
 use Rattle.lines.specs.Values.{pickWord, tally, headOf, readingIn, estimateIn, targetIn, messageWith, messageOf}
-use Rattle.lines.proofs.Columns.{column-same, fill-start, fill-done, bits-step, bits-few, no-run}
+use Rattle.lines.proofs.Columns.{column-same, fill-start, fill-done, bits-step, bits-few}
 
 pub head-in : {kind k : Kind} (a b c d : ℕ) {r : Head} → kind ≡ k → r ≡ headOf k a b c d → r ≡ headOf kind a b c d
 head-in a b c d e h = rw e h

@@ -15,6 +15,7 @@ use Rattle.units.specs.Mask.{inMask}
 use Rattle.units.specs.Pick.{pick}
 use Rattle.units.specs.Settings.{groupFits}
 use Rattle.units.proofs.Every.{and-left}
+use Rattle.units.proofs.Masks.{no-run}
 use Rattle.floats.specs.Bits.{xBits, varianceBits, targetBits}
 use Rattle.vote.specs.Digest.{legal}
 use Rattle.message.specs.declared.head.Head.{Head}
@@ -29,7 +30,6 @@ use Rattle.lines.specs.Lists.{joined}
 use Rattle.lines.specs.Table.{kindOf, quantityAt, countOf, runsOf}
 use Rattle.lines.specs.Values.{headOf, messageWith, messageOf, kindIs, headValues, valuesOf}
 use Rattle.lines.proofs.Arrays.{word-is, rank, rawAt, floatsAt, targetAt, readings-fit, estimates-fit, targets-fit, raws-again, floats-again, targets-again, raws-front, floats-front, targets-front, rank-mono, rank-suc}
-use Rattle.lines.proofs.Columns.{no-run}
 use Rattle.lines.proofs.Quantities.{round-said, state-said, sender-said, run-said, base-said, mask-said, raw-said, x-said, variance-said, target-said}
 use Rattle.lines.proofs.Sending.{group-runs}
 use Rattle.lines.proofs.Spelled.{Fit, FitsAt, fits-each}

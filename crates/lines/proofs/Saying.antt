@@ -14,13 +14,14 @@ use Rattle.units.specs.declared.settings.Group.{Group}
 use Rattle.units.specs.Limits.{labelTop, rawTop, xTop, varianceTop, targetTop}
 use Rattle.units.specs.Mask.{inMask, maskFits}
 use Rattle.units.specs.Pick.{pick}
-use Rattle.units.proofs.Every.{and-left, and-right}
+use Rattle.units.proofs.Every.{and-left, and-right, and-three}
 use Rattle.floats.specs.Bits.{bitsOf, xBits, varianceBits, targetBits}
 use Rattle.floats.specs.Ranges.{noEstimate, estimateFits, stateFits, targetsFit}
 use Rattle.floats.proofs.Limits.{x-limit, variance-limit, target-limit, range-bits}
 use Rattle.floats.proofs.Places.{estimate-x, estimate-variance, state-run, targets-run}
 use Rattle.units.specs.declared.labels.RoundLabel.{RoundLabel}
 use Rattle.units.specs.declared.labels.StateLabel.{StateLabel}
+use Rattle.units.proofs.Masks.{no-run}
 use Rattle.vote.specs.declared.digest.Digest.{Digest}
 use Rattle.vote.specs.Digest.{legal}
 use Rattle.message.specs.declared.head.Head.{Head}
@@ -37,7 +38,6 @@ use Rattle.lines.specs.Table.{letterOf, kindOf, quantityAt, limitOf, cou
 use Rattle.lines.specs.Values.{word, headOf, messageOf, kindIs, headValues, valuesOf, rawOf, floatsOf, targetOf}
 use Rattle.lines.proofs.Adding.{no-raws}
 use Rattle.lines.proofs.Arrays.{word-is, rank, reading-range, readings-back, estimates-back, targets-back, raws-length, raws-at, floats-length, floats-at, targets-count, target-at}
-use Rattle.lines.proofs.Columns.{no-run}
 use Rattle.lines.proofs.Making.{message-made}
 use Rattle.lines.proofs.Meaning.{reply-later, update-x, update-variance, setpoints-later}
 use Rattle.lines.proofs.Quantities.{round-in, state-in, sender-in, run-in, base-in, mask-in, mask-word, raw-in, x-in, variance-in, target-in}
@@ -47,9 +47,6 @@ use Rattle.lines.proofs.Spelled.{Fit, FitsAt, fitsBy, fits-all}
 pub record Said (k : Kind) (s : Group) (a : Message) : Type 0 where
   pub fit : Fit k s (valuesOf s a)
   pub back : messageOf s k (valuesOf s a) ≡ a
-
-and-three : (a b c : Bool) → (a && b && c) ≡ true → (a ≡ true) × (b ≡ true) × (c ≡ true)
-and-three a b c e = (and-left a b (and-left (a && b) c e), and-right a b (and-left (a && b) c e), and-right (a && b) c e)
 
 below-one : (P : ℕ → Type 0) → P 0 → (i : ℕ) → i < 1 → P i
 below-one P p zero h = p

@@ -8,6 +8,7 @@ use lib.Dec.{eqb, leb, lit<}
 use lib.ListN.{length, getD, drop, length-append}
 use borrow.Author.Tests.{eq-eqb, ne-eqb, eqb-true, leb-true, le-leb, lt-ltb}
 use Rattle.units.specs.Pick.{pick}
+use Rattle.units.proofs.Every.{no-way}
 use Rattle.message.specs.declared.settings.Settings.{Settings}
 use Rattle.fields.specs.declared.field.Field.{Field}
 use Rattle.fields.specs.declared.field.Field.the-variants.{Value, Form, Range}
@@ -20,6 +21,7 @@ use Rattle.fields.proofs.Certificates.{certificate-lacks, certificate-long}
 use Rattle.fields.proofs.Puts.{written-is}
 use Rattle.fields.proofs.Spellings.{field-only, field-read, fits-range}
 use Rattle.fields.proofs.Texts.{text-only, fields-back, tabbed-lacks, lacks-append, until-append}
+use Rattle.fields.proofs.Scans.{feed-last}
 use Rattle.lines.specs.declared.kind.Kind.{Kind}
 use Rattle.lines.specs.declared.kind.Kind.the-variants.{Sizes, Filter, Run}
 use Rattle.lines.specs.declared.settle.Answer.{Answer}
@@ -33,16 +35,13 @@ use Rattle.lines.specs.Table.{letterOf, quantityAt, spellingOf, limitFor
 use Rattle.lines.specs.Writing.{lineOf}
 use Rattle.lines.proofs.Putting.{written-short}
 use Rattle.lines.proofs.Spelled.{Fit, fitsBy, spelling-is, values-only, values-back, texts-are}
-use Rattle.lines.proofs.Wire.{textOf, feed-last, feed-at, ended-line, first-is-letter, later-are-texts, line-short, letter-lacks, written-lacks}
+use Rattle.lines.proofs.Wire.{textOf, feed-at, ended-line, first-is-letter, later-are-texts, line-short, letter-lacks, written-lacks}
 
 -- whether a line was taken
 abbrev pub takes : Answer → Bool
 takes More = true
 takes Whole = true
 takes (Refused why) = false
-
-no-way : {A : Type 0} → false ≡ true → A
-no-way e = absurd-by (cc)
 
 -- THE FRAME of every settings line
 line-of : (st : Settling) (line text : List ℕ) → length line ≤ 600 → ended line ≡ true → until 10 line ≡ text → settleLine st line ≡ settleText st text

@@ -235,9 +235,6 @@ at-inside text at b t e n =
     let q : starts b (drop at text) ≡ true = sym e ∙ not-false t n in
     by-lt at (length text) (λ h. h) (λ h. let z = rw (drop-of-length-le text {i = at} h) at q in absurd-by (cc))
 
-pub not-good : {A : Type 0} → false ≡ true → A
-not-good e = absurd-by (cc)
-
 pub reading-three : (s : Group) (mask : ℕ) → 3 ≡ countOf Reading s mask
 unfolding countOf
 reading-three s mask = refl

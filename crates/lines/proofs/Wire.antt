@@ -17,12 +17,12 @@ use Rattle.message.specs.declared.value.Message.{Message}
 use Rattle.fields.specs.declared.spelling.Spelling.{Spelling}
 use Rattle.fields.specs.Field.{limit}
 use Rattle.fields.specs.Put.{written}
-use Rattle.fields.specs.Text.{until, firstField, laterFields, fieldsOf, tabbed, lacks, allLack, scanned}
+use Rattle.fields.specs.Text.{until, firstField, laterFields, fieldsOf, tabbed, lacks, allLack}
 use Rattle.fields.proofs.Cases.{by-test, by-lt, absurd-by}
 use Rattle.fields.proofs.Puts.{written-is, written-none}
-use Rattle.fields.proofs.Scans.{scan-ended}
 use Rattle.fields.proofs.Spellings.{spelled-lacks}
-use Rattle.fields.proofs.Texts.{text-only, fields-back, tabbed-lacks, lacks-append, until-append, until-take}
+use Rattle.fields.proofs.Texts.{text-only, fields-back, tabbed-lacks, lacks-append, until-append}
+use Rattle.fields.proofs.Scans.{feed-last}
 use Rattle.lines.specs.declared.kind.Kind.{Kind}
 use Rattle.lines.specs.declared.kind.Kind.the-variants.{Reading, Query, Reply, Advert, Update, Vote, Setpoints, Due, CollectingEnds, VotingEnds, Floor, Start, Refused as OfRefused, Sizes, Filter, Run}
 use Rattle.lines.specs.declared.kind.Found.{Found}
@@ -103,10 +103,6 @@ module _ (s : Group) (line : List ℕ) (a : Message) (gr : groupFits s ≡ true)
   text-accepted : (text : List ℕ) → line ≡ text ++ (10 ∷ []) → (f : Found) → kindIn (firstField text) ≡ f → readKnown s (laterFields text) f ≡ taken a → Accepted s line a
   text-accepted text le (Known k) ke e = known-only text le k ke (readValues k s (laterFields text)) refl e
   text-accepted text le Unknown ke e = not-taken _ _ a e
-
-pub feed-last : (line : List ℕ) → length (until 10 line) + 1 ≡ length line → line ≡ until 10 line ++ (10 ∷ [])
-unfolding scanned
-feed-last line h = rw (until-take 10 line) at (scan-ended line h .0)
 
 pub line-accepted : (s : Group) (line : List ℕ) (a : Message) → readLine s line ≡ taken a → Accepted s line a
 unfolding readLine readText pick

@@ -1,6 +1,6 @@
 // The numbers of a line, read field by field with a cursor.
 ghost use mathlib.Core.Path.{_≡_};
-ghost use Prim.Native.Nat.{_+_, _≤_};
+ghost use Prim.Native.Nat.{_≤_};
 ghost use lib.ListN.{length, getD, take};
 ghost use Rattle.units.specs.declared.refusal.Verdict.{Verdict};
 ghost use Rattle.fields.specs.Text.{laterFields};

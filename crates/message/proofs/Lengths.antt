@@ -1,5 +1,4 @@
 -- The lengths of arrays, which their types tell: a test with them is the test without. Assumes nothing.
-use Prim.Native.Nat.{ℕ}
 use mathlib.Core.Path.{_≡_, _∙_}
 use mathlib.Core.Bool.{Bool, _&&_}
 use mathlib.Core.List.{List}

@@ -1,2 +1,3 @@
 -- The laws of `message` that belong to no one function.
+pub mod Ranges
 mod Lengths

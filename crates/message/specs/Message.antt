@@ -1,5 +1,4 @@
 -- A message as a value: "handed in as values with anything out of range get 6"; places that a kind or m does not use are blank.
-use Prim.Native.Nat.{ℕ}
 use mathlib.Core.Bool.{Bool, _&&_}
 use lib.ListN.{replicate}
 use Rattle.units.specs.declared.settings.Group.{Group}

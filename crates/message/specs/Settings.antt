@@ -1,7 +1,7 @@
 -- The settings as a value: the numbers of G, N and K, and certificates of "1 to 16 bytes 0x21..0x7E".
 use Prim.Native.Nat.{ℕ}
 use mathlib.Core.Bool.{Bool, true, false, _&&_}
-use mathlib.Core.List.{List, []}
+use mathlib.Core.List.{[]}
 use lib.Dec.{ltb, eqb}
 use lib.ListN.{length, getD}
 use Rattle.units.specs.Every.{every}

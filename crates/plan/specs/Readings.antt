@@ -1,6 +1,6 @@
 -- M, Q and R of 'Phases of a round'.
 use Prim.Native.Nat.{ℕ}
-use mathlib.Core.Bool.{Bool, true, false, not}
+use mathlib.Core.Bool.{Bool, not}
 use lib.Bits.{bitAnd}
 use lib.Dec.{eqb, ltb}
 use Rattle.units.specs.declared.labels.RoundLabel.{RoundLabel}

@@ -1,6 +1,6 @@
 -- C, E and V of 'Phases of a round': 10 comes before 9.
 use Prim.Native.Nat.{ℕ, _-_}
-use mathlib.Core.Bool.{Bool, not}
+use mathlib.Core.Bool.{not}
 use lib.Dec.{eqb, ltb}
 use Rattle.units.specs.declared.labels.RoundLabel.{RoundLabel}
 use Rattle.units.specs.declared.refusal.Refusal.the-variants.{Closed, Other, Undecided}
@@ -8,7 +8,6 @@ use Rattle.units.specs.declared.refusal.Verdict.the-variants.{Refused}
 use Rattle.units.specs.Labels.{justBefore}
 use Rattle.units.specs.Mask.{maskEnd}
 use Rattle.units.specs.Pick.{pick}
-use Rattle.message.specs.declared.head.Head.{Head}
 use Rattle.message.specs.declared.head.Head.the-variants.{Query, Advert, Floor}
 use Rattle.plan.specs.declared.brief.Brief.{Brief}
 use Rattle.plan.specs.declared.brief.Phase.{Phase}

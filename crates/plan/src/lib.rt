@@ -9,6 +9,7 @@ pub mod votes;
 
 pub use brief::Brief;
 pub use brief::Phase;
+pub use planned::Change;
 pub use planned::Effect;
 pub use planned::Plan;
 pub use planned::Sent;

@@ -1,6 +1,6 @@
 // A plan: the effect on the controller, up to two messages to send, and what the step says.
 ghost use mathlib.Core.Path.{_≡_};
-ghost use Rattle.plan.specs.Plan.{afterwards, both, does, refuse, sends};
+ghost use Rattle.plan.specs.Plan.{afterwards, both, changeOf, does, refuse, sends};
 use crate::brief::Phase;
 use message::Head;
 use units::Refusal;
@@ -54,6 +54,43 @@ pub enum Effect {
         own: usize,
         floor: RoundLabel,
     },
+}
+
+// How much an effect changes: nothing, one reading, or more than that.
+pub enum Change {
+    Nothing,
+    Reading { run: usize, raw: u32 },
+    More,
+}
+
+impl Effect {
+    pub fn change(self) -> Change
+        ensures { λ r. ⌜ r ≡ changeOf self ⌝ }
+    {
+        match self {
+            Effect::Keep => Change::Nothing,
+            Effect::Go { phase: _ } => Change::More,
+            Effect::Begin {
+                label: _,
+                run: _,
+                raw: _,
+            } => Change::More,
+            Effect::Add { run, raw } => Change::Reading { run, raw },
+            Effect::Merge { mask: _ } => Change::More,
+            Effect::Adopt { state: _, phase: _ } => Change::More,
+            Effect::Count {
+                seat: _,
+                digest: _,
+                phase: _,
+            } => Change::More,
+            Effect::Issue {
+                seat: _,
+                digest: _,
+                chosen: _,
+            } => Change::More,
+            Effect::Restart { own: _, floor: _ } => Change::More,
+        }
+    }
 }
 
 // A message to send, but for the arrays of R, U and S, which are those of the controller after the step.

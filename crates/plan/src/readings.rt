@@ -1,5 +1,4 @@
 // Handlers of M, Q and R: readings.
-ghost use lib.Dec.{eqb};
 ghost use mathlib.Core.Path.{_≡_};
 ghost use Rattle.plan.specs.Readings.{answered, collected, planQuery, planReading, planReply, sameRound};
 use crate::brief::Brief;

@@ -15,22 +15,22 @@ use Rattle.session.specs.declared.carry.Carry.{Carry}
 use Rattle.session.specs.Feeding.{carryTop, fitting, held, lineIn}
 
 -- how many more bytes are held
-pub fitting-none : (len n : ℕ) → 601 < len → 0 ≡ fitting len n
+pub fitting-none : (len n : ℕ) → carryTop < len → 0 ≡ fitting len n
 unfolding fitting pick
-fitting-none len n h = let z : 601 - len ≡ 0 = omega arith in rw (z, le-ltb n 0 (omega arith))
+fitting-none len n h = let z : carryTop - len ≡ 0 = omega arith in rw (z, le-ltb n 0 (omega arith))
 
-pub fitting-all : (len n : ℕ) → n < 601 - len → n ≡ fitting len n
+pub fitting-all : (len n : ℕ) → n < carryTop - len → n ≡ fitting len n
 unfolding fitting
-fitting-all len n h = by-yes _ (lt-ltb n (601 - len) h) refl
+fitting-all len n h = by-yes _ (lt-ltb n (carryTop - len) h) refl
 
-pub fitting-some : (len n : ℕ) → 601 - len ≤ n → 601 - len ≡ fitting len n
+pub fitting-some : (len n : ℕ) → carryTop - len ≤ n → carryTop - len ≡ fitting len n
 unfolding fitting
-fitting-some len n h = by-no _ (le-ltb n (601 - len) h) refl
+fitting-some len n h = by-no _ (le-ltb n (carryTop - len) h) refl
 
 pub fitting-take : (len n : ℕ) (l : List ℕ) → take (fitting len n) l ≡ take (carryTop - len) (take n l)
-fitting-take len n l = by-lt n (601 - len)
-    (λ h. ap (λ k. take k l) (sym (fitting-all len n h)) ∙ sym (take-all (601 - len) (take n l) (let t = length-take n l in omega arith)))
-    (λ h. ap (λ k. take k l) (sym (fitting-some len n h)) ∙ sym (take-take (601 - len) n l h))
+fitting-take len n l = by-lt n (carryTop - len)
+    (λ h. ap (λ k. take k l) (sym (fitting-all len n h)) ∙ sym (take-all (carryTop - len) (take n l) (let t = length-take n l in omega arith)))
+    (λ h. ap (λ k. take k l) (sym (fitting-some len n h)) ∙ sym (take-take (carryTop - len) n l h))
 
 -- the carry after more bytes
 pub held-made : (k : Carry) (n m r : ℕ) (input s b : List ℕ) → m ≡ fitting (k .len) n → s ≡ take m input → r ≡ putEnd (k .bytes) (k .len) s → b ≡ put (k .bytes) (k .len) s

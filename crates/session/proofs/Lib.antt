@@ -8,6 +8,9 @@ pub mod Long
 pub mod Lines
 pub mod Carrying
 pub mod Room
+pub mod Running
+pub mod Adding
+pub mod Serving
 pub mod Whole
 pub mod Runs
 pub mod Verdicts

@@ -10,15 +10,11 @@ use lib.Seq.{take-length}
 use borrow.Author.Tests.{eqb-true}
 use Rattle.units.specs.Pick.{pick}
 use Rattle.fields.specs.Text.{lineFeed, until, lacks}
-use Rattle.fields.proofs.Cases.{by-test, absurd-by}
-use Rattle.fields.proofs.Texts.{until-take, until-lacks}
+use Rattle.fields.proofs.Cases.{by-test}
+use Rattle.fields.proofs.Texts.{until-take, until-lacks, lacks-first}
 use Rattle.session.specs.Feeding.{feedAt}
 use Rattle.session.specs.Pieces.{unfinished}
 use Rattle.session.specs.Station.{linesOf}
-
-lacks-first : (b c : ℕ) (cs : List ℕ) → lacks b (c ∷ cs) ≡ true → (eqb c b ≡ false) × (lacks b cs ≡ true)
-unfolding lacks
-lacks-first b c cs = by-test (eqb c b) (λ t. rw t (λ e. absurd-by (cc))) (λ t. rw t (λ e. (refl, e)))
 
 -- up to its line feed and with it
 pub lines-feed : (s rest : List ℕ) → lacks lineFeed s ≡ true → linesOf (s ++ (lineFeed ∷ rest)) ≡ (s ++ (lineFeed ∷ [])) ∷ linesOf rest

@@ -1,22 +1,18 @@
 -- DOCUMENT 01'S 'The station program', sentence by sentence: what the definition of `turn` comes to. Assumes nothing.
 use Prim.Native.Nat.{ℕ, _<_}
 use mathlib.Core.Path.{_≡_, refl, ap, _∙_}
-use mathlib.Core.Bool.{true}
 use mathlib.Core.List.{List, [], _∷_, _++_}
 use lib.ListN.{length}
-use borrow.Author.Tests.{lt-leb}
 use Rattle.units.specs.declared.labels.RoundLabel.{RoundLabel}
 use Rattle.units.specs.declared.refusal.Refusal.{Refusal}
 use Rattle.units.specs.declared.refusal.Refusal.the-variants.{Long}
 use Rattle.units.specs.declared.refusal.Verdict.the-variants.{Taken}
-use Rattle.units.specs.declared.settings.Group.{Group}
 use Rattle.units.specs.Limits.{lineTop}
-use Rattle.units.specs.Pick.{pick}
-use Rattle.units.specs.Settings.{groupFits}
 use Rattle.message.specs.declared.head.Head.the-variants.{Start}
 use Rattle.lines.specs.declared.settle.Answer.the-variants.{Refused as NoSettings}
-use Rattle.lines.specs.Reading.{refusedLine, readLine}
+use Rattle.lines.specs.Reading.{readLine}
 use Rattle.lines.specs.Settling.{settleLine}
+use Rattle.lines.proofs.Refusing.{read-long}
 use Rattle.lines.proofs.RoundTrip.{read-fits}
 use Rattle.controller.specs.declared.step.Answer.{Answer}
 use Rattle.controller.specs.Effects.{applied}
@@ -32,6 +28,7 @@ use Rattle.session.specs.Station.{closing, answers}
 use Rattle.session.specs.Turn.{Turn, numbersIn, groupIn, settledIn, runningWith, quiet, refusing, settlesTo, waitsFor, hears, sentText, verdictText, answerText, answered, turnBy, stepping, turn}
 use Rattle.session.proofs.Demand2.{turn-steps}
 use Rattle.session.proofs.Same.{step-same}
+use Rattle.session.proofs.Turns.{turn-ended}
 
 -- "Refused settings give X 15 and the end"
 pub settings-end : (c : Core) (line : List ℕ) (why : Refusal) → c .stage ≡ AtSettings → settleLine (c .settling) line .answer ≡ NoSettings why
@@ -40,25 +37,17 @@ unfolding turnBy settlesTo
 settings-end c line why s e = rw (s, e)
 
 -- the end: nothing more is written, whatever comes
-ended-turn : (c : Core) (line : List ℕ) (stage : Stage) → stage ≡ Ended → turnBy stepping c line stage ≡ quiet c
-unfolding turnBy
-ended-turn c line stage e = rw e
-
 pub ended-quiet : (c : Core) (ls : List (List ℕ)) → c .stage ≡ Ended → answers c ls ≡ []
 unfolding answers closing
 ended-quiet c [] s = rw s
-ended-quiet c (l ∷ ls) s = ap {B = List ℕ} (λ (t : Turn). t .text ++ answers (t .next) ls) (ended-turn c l (c .stage) s) ∙ ended-quiet c ls s
+ended-quiet c (l ∷ ls) s = ap {B = List ℕ} (λ (t : Turn). t .text ++ answers (t .next) ls) (turn-ended stepping c l s) ∙ ended-quiet c ls s
 
 -- "A line over 600 bytes is refused once, up to its line feed"
-read-over : (s : Group) (line : List ℕ) → groupFits s ≡ true → lineTop < length line → readLine s line ≡ refusedLine Long
-unfolding readLine pick
-read-over s line g h = rw (g, lt-leb (length line) lineTop h)
-
 over-at : (c : Core) (line : List ℕ) (stage : Stage) → (stage ≡ AtSettings → ⊥) → (stage ≡ Ended → ⊥) → FitsAt c stage → lineTop < length line → turnBy stepping c line stage ≡ refusing c Long
 unfolding turnBy hears
 over-at c line AtSettings p q f h = absurd (p refl)
-over-at c line Waiting p q f h = rw (read-over (groupIn c) line (group-fits (numbersIn c) f) h)
-over-at c line Running p q f h = rw (read-over (groupIn c) line (group-fits (numbersIn c) (f .0)) h)
+over-at c line Waiting p q f h = rw (read-long (groupIn c) line (group-fits (numbersIn c) f) h)
+over-at c line Running p q f h = rw (read-long (groupIn c) line (group-fits (numbersIn c) (f .0)) h)
 over-at c line Ended p q f h = absurd (q refl)
 
 pub long-once : (c : Core) (line : List ℕ) → (c .stage ≡ AtSettings → ⊥) → (c .stage ≡ Ended → ⊥) → CoreFits c → lineTop < length line → turn c line ≡ refusing c Long

@@ -1,7 +1,7 @@
 -- ROOM: two lines' room is always enough, whatever the session; with less nothing is taken, written or changed. Assumes nothing.
 use Prim.Native.Nat.{ℕ, _+_, _-_, _*_, _≤_, _<_}
 use native.Mathlib.Omega.{arith}
-use mathlib.Core.Path.{_≡_, refl, ap, _∙_}
+use mathlib.Core.Path.{_≡_, refl, sym, ap, _∙_}
 use mathlib.Core.List.{List, [], _++_}
 use lib.Dec.{eqb}
 use lib.ListN.{length, take, drop, length-append, length-drop}
@@ -37,6 +37,7 @@ use Rattle.session.specs.declared.stage.Stage.{Stage}
 use Rattle.session.specs.declared.stage.Stage.the-variants.{Settling as AtSettings, Waiting, Running, Ended}
 use Rattle.session.specs.Feeding.{fitText, restText, putText, advancing, lineIn, feedAt, lineTurn, closed, holding, fed, fedText, finished, lastTurn}
 use Rattle.session.specs.Turn.{Turn, groupIn, settlesTo, waitsFor, hears, verdictText, turnBy}
+use Rattle.session.proofs.Both.{puts-room, puts-short}
 
 -- HOW LONG AN ANSWER IS: two lines at most
 pub verdict-short : (v : Verdict) → length (verdictText v) ≤ lineTop
@@ -55,7 +56,7 @@ unfolding restText
 rest-short s c v Nothing = verdict-short v
 rest-short s c v (One head) = fit-short s c head
 
-put-short : (s : Numbers) (c : Controller) (second : Sent) (v : Verdict) (first : Sent) → length (putText s c second v first) ≤ 2 * lineTop
+pub put-short : (s : Numbers) (c : Controller) (second : Sent) (v : Verdict) (first : Sent) → length (putText s c second v first) ≤ 2 * lineTop
 unfolding putText
 put-short s c second v Nothing = let a = verdict-short v in omega arith
 put-short s c second v (One head) =
@@ -135,15 +136,13 @@ module _ (x : Session) (end : ℕ) (t : Turn) (room : ℕ) where
 
 -- a line put at the front of a buffer
 pub front : (bytes buf : List ℕ) → length bytes ≤ length buf → bufferOf bytes buf ≡ bytes ++ drop (length bytes) buf
-unfolding pick
-front bytes buf h = rw (le-ltb (length buf) (length bytes) h)
+front bytes buf h = sym (puts-room bytes buf h .1)
 
 pub front-take : (bytes buf : List ℕ) → length bytes ≤ length buf → take (length bytes) (bufferOf bytes buf) ≡ bytes
 front-take bytes buf h = rw (front bytes buf h) (take-at bytes (drop (length bytes) buf) (length bytes) refl)
 
-pub front-none : (bytes buf : List ℕ) → length buf < length bytes → bufferOf bytes buf ≡ buf
-unfolding pick
-front-none bytes buf h = rw (lt-ltb (length buf) (length bytes) h)
+front-none : (bytes buf : List ℕ) → length buf < length bytes → bufferOf bytes buf ≡ buf
+front-none bytes buf h = sym (puts-short bytes buf h .1)
 
 -- TWO LINES' ROOM IS ENOUGH for any call
 pub room : (x : Session) (piece : List ℕ) (lent : ℕ) → 2 * lineTop ≤ lent → fed x piece lent .verdict ≡ Taken

@@ -32,7 +32,7 @@ use Rattle.session.specs.Turn.{Turn, groupIn, numbersIn, settlesTo, hear
 use Rattle.session.proofs.Carrying.{start-holds, emptied-holds, held-holds, line-same}
 use Rattle.session.proofs.Fits.{start-fits, turn-fits}
 use Rattle.session.proofs.Lines.{lines-feed, lines-last, lines-none, unfinished-all, unfinished-feed, feed-split, feed-line, feed-none}
-use Rattle.session.proofs.Long.{read-unended, settle-unended}
+use Rattle.session.proofs.Long.{read-last, settle-last}
 use Rattle.session.proofs.Room.{verdict-short, fed-holds, fed-line, text-line, closed-room, closed-none, front-take}
 use Rattle.session.proofs.Same.{same-turn}
 
@@ -172,9 +172,9 @@ lastText t = t .text ++ answers (t .next) []
 unended-text : (c : Core) (b : ℕ) (p : List ℕ) (stage : Stage) → c .stage ≡ stage → FitsAt c stage → lacks lineFeed (b ∷ p) ≡ true
     → lastText (turnBy stepping c (b ∷ p) stage) ≡ verdictText (lastOf (c .settling) (length (b ∷ p)) stage)
 unfolding turnBy lastOf unendedLine pick settlesTo hears answers closing verdictText
-unended-text c b p AtSettings e f l = rw (settle-unended (c .settling) (b ∷ p) l) (append-nil _)
-unended-text c b p Waiting e f l = rw (read-unended (groupIn c) (b ∷ p) (group-in c f) l, e, ne-eqb (length (b ∷ p)) 0 (λ q. absurd (omega arith))) (append-nil _)
-unended-text c b p Running e f l = rw (read-unended (groupIn c) (b ∷ p) (group-in c (f .0)) l, e, ne-eqb (length (b ∷ p)) 0 (λ q. absurd (omega arith))) (append-nil _)
+unended-text c b p AtSettings e f l = rw (settle-last (c .settling) (b ∷ p) l) (append-nil _)
+unended-text c b p Waiting e f l = rw (read-last (groupIn c) (b ∷ p) (group-in c f) l, e, ne-eqb (length (b ∷ p)) 0 (λ q. absurd (omega arith))) (append-nil _)
+unended-text c b p Running e f l = rw (read-last (groupIn c) (b ∷ p) (group-in c (f .0)) l, e, ne-eqb (length (b ∷ p)) 0 (λ q. absurd (omega arith))) (append-nil _)
 unended-text c b p Ended e f l = rw e
 
 none-text : (c : Core) (stage : Stage) → closing c stage ≡ verdictText (lastOf (c .settling) 0 stage)

@@ -1,17 +1,19 @@
 -- Texts put into a lent buffer, and turns: what the code needs of the definitions. Assumes nothing.
 use Prim.Native.Nat.{ℕ, _+_, _≤_, _<_}
-use mathlib.Core.Path.{_≡_, refl, sym, ap, _∙_}
-use mathlib.Core.List.{List, [], _∷_, _++_}
-use mathlib.Core.Bool.{Bool, true, false, not}
+use mathlib.Core.Path.{_≡_, refl, ap, _∙_}
+use mathlib.Core.List.{List, []}
+use mathlib.Core.Bool.{Bool, true, false}
 use native.Mathlib.Omega.{arith}
+use lib.Dec.{ltb}
 use lib.ListN.{length}
-use borrow.Author.Tests.{le-ltb, not-true, not-false}
+use borrow.Author.Tests.{le-ltb}
 use Rattle.units.specs.declared.refusal.Refusal.{Refusal}
 use Rattle.units.specs.declared.settings.Numbers.{Numbers}
 use Rattle.units.specs.Pick.{pick}
 use Rattle.message.specs.declared.head.Head.{Head}
 use Rattle.message.specs.declared.value.Message.{Message}
 use Rattle.message.specs.Message.{messageFits}
+use Rattle.fields.proofs.Cases.{by-test}
 use Rattle.lines.specs.declared.write.Written.{Written}
 use Rattle.lines.specs.declared.write.Written.the-variants.{Done}
 use Rattle.lines.specs.Writing.{answerOf, bufferOf, spellLine, writeAnswer, writeBuffer}
@@ -20,7 +22,7 @@ use Rattle.controller.specs.declared.step.Answer.{Answer}
 use Rattle.controller.specs.Sent.{sentMessage}
 use Rattle.session.specs.declared.stage.Core.{Core}
 use Rattle.session.specs.declared.turn.Turned.{Turned}
-use Rattle.session.specs.Feeding.{Wrote, advances, fitText, putText}
+use Rattle.session.specs.Feeding.{Wrote, advances, fitText, orNothing, putText}
 use Rattle.session.specs.Turn.{Turn, numbersIn, quiet, refusing, runningWith}
 
 -- a text and a buffer: what is answered, and the buffer after it
@@ -51,17 +53,18 @@ pub wrote-advances : (c n : Core) (r a : Answer) (before : List ℕ) {after : Li
     → Puts (putText (numbersIn c) (r .next) (r .second) (r .verdict) (r .first)) before after w → Wrote (advances c a) before after (record { next = n; written = w })
 wrote-advances c n r a before e f p = rw (← e) (f, p .0, p .1)
 
+-- what the writer answers, with 6 as nothing written
+or-answer : (t before : List ℕ) → orNothing (answerOf t before) ≡ answerOf t before
+unfolding orNothing pick
+or-answer t before = by-test (ltb (length before) (length t)) (λ e. rw e) (λ e. rw e)
+
+or-puts : (fit : Bool) (t before : List ℕ) {after : List ℕ} {w r : Written} → r ≡ orNothing w → (w ≡ writeAnswer fit t before) × (after ≡ writeBuffer fit t before) → Puts (pick fit t []) before after r
+unfolding writeAnswer writeBuffer orNothing pick
+or-puts true t before e h = (e ∙ ap orNothing (h .0) ∙ or-answer t before, h .1)
+or-puts false t before e h = let p = puts-none before in (e ∙ ap orNothing (h .0) ∙ p .0, h .1 ∙ p .1)
+
 -- a message that is sent, as the writer writes it
-module _ (s : Numbers) (c : Controller) (head : Head) (m : Message) (b : Bool) (me : m ≡ sentMessage s c head head) (be : b ≡ messageFits (s .group) m) where
-  pub fit-none : not b ≡ true → fitText s c head ≡ []
-  unfolding fitText pick
-  fit-none t = let f : messageFits (s .group) (sentMessage s c head head) ≡ false = sym (ap (messageFits (s .group)) me) ∙ sym be ∙ not-true b t in rw f
-
-  pub fit-some : not b ≡ false → fitText s c head ≡ spellLine (s .group) m
-  unfolding fitText pick
-  fit-some t = let f : messageFits (s .group) (sentMessage s c head head) ≡ true = sym (ap (messageFits (s .group)) me) ∙ sym be ∙ not-false b t in rw (f, me)
-
-  pub fit-puts : not b ≡ false → (before : List ℕ) {after : List ℕ} {r : Written} → (r ≡ writeAnswer (messageFits (s .group) m) (spellLine (s .group) m) before) × (after ≡ writeBuffer (messageFits (s .group) m) (spellLine (s .group) m) before)
-      → Puts (fitText s c head) before after r
-  unfolding writeAnswer writeBuffer pick
-  fit-puts t before h = puts-same before (fit-some t) (rw (sym be ∙ not-false b t) at h)
+pub fit-puts : (s : Numbers) (c : Controller) (head : Head) (m : Message) → m ≡ sentMessage s c head head → (before : List ℕ) {after : List ℕ} {w r : Written} → r ≡ orNothing w
+    → (w ≡ writeAnswer (messageFits (s .group) m) (spellLine (s .group) m) before) × (after ≡ writeBuffer (messageFits (s .group) m) (spellLine (s .group) m) before) → Puts (fitText s c head) before after r
+unfolding fitText
+fit-puts s c head m me before e h = rw (← me) (or-puts (messageFits (s .group) m) (spellLine (s .group) m) before e h)

@@ -6,7 +6,7 @@ use mathlib.Core.Bool.{Bool, true, false}
 use lib.Dec.{eqb, ltb}
 use lib.ListN.{length, take, replicate}
 use Rattle.units.specs.declared.refusal.Refusal.{Refusal}
-use Rattle.units.specs.declared.refusal.Refusal.the-variants.{Long, Unended, Settings as NoSettings, Room}
+use Rattle.units.specs.declared.refusal.Refusal.the-variants.{Long, Unended, Range, Settings as NoSettings, Room}
 use Rattle.units.specs.declared.refusal.Verdict.{Verdict}
 use Rattle.units.specs.declared.refusal.Verdict.the-variants.{Taken, Refused}
 use Rattle.units.specs.declared.settings.Numbers.{Numbers}
@@ -25,7 +25,7 @@ use Rattle.lines.specs.declared.settle.Settling.{Settling}
 use Rattle.lines.specs.Reading.{readLine}
 use Rattle.lines.specs.declared.write.Written.{Written}
 use Rattle.lines.specs.declared.write.Written.the-variants.{Done, Refused as NotWritten}
-use Rattle.lines.specs.Writing.{spellLine, answerOf, bufferOf}
+use Rattle.lines.specs.Writing.{spellLine, answerOf, bufferOf, writtenNumber}
 use Rattle.controller.specs.declared.state.Controller.{Controller}
 use Rattle.controller.specs.declared.step.Answer.{Answer}
 use Rattle.controller.specs.Sent.{sentMessage}
@@ -41,7 +41,7 @@ use Rattle.session.specs.Turn.{Turn, groupIn, numbersIn, coreStart, sett
 
 -- WHAT IS HELD of a line that has not ended: its first 601 bytes, enough to know that it is too long
 abbrev pub carryTop : ℕ
-carryTop = 601
+carryTop = lineTop + 1
 
 unfoldable pub carryStart : Carry
 carryStart = record { len = 0; bytes = replicate carryTop 0 }
@@ -69,6 +69,10 @@ advanced s c a = carriedOut s c a (planned s c a (a .head))
 
 unfoldable pub fitText : Numbers → Controller → Head → List ℕ
 fitText s c head = pick (messageFits (s .group) (sentMessage s c head head)) (spellLine (s .group) (sentMessage s c head head)) []
+
+-- the writer's 6 counts as nothing written
+unfoldable pub orNothing : Written → Written
+orNothing w = pick (eqb (writtenNumber w) (numberOf Range)) (Done 0) w
 
 unfoldable pub restText : Numbers → Controller → Verdict → Sent → List ℕ
 restText s c v Nothing = verdictText v

@@ -1,6 +1,7 @@
 -- The definitions of `session`.
 pub mod Turn
 pub mod Feeding
+pub mod Serving
 pub mod Station
 pub mod Reach
 pub mod Pieces

@@ -2,7 +2,7 @@
 ghost use mathlib.Core.Path.{_≡_};
 ghost use mathlib.Core.List.{_++_};
 ghost use Rattle.lines.specs.Writing.{answerOf, bufferOf};
-ghost use Rattle.session.specs.Feeding.{doneLength, fitText, putText, restText};
+ghost use Rattle.session.specs.Feeding.{doneLength, fitText, orNothing, putText, restText};
 ghost use Rattle.fields.specs.Put.{put};
 ghost use lib.ListN.{take};
 ghost use Rattle.session.specs.Turn.{verdictText};
@@ -17,15 +17,22 @@ use units::Numbers;
 use units::Refusal;
 use units::Verdict;
 
+// What the writer refuses by 6 counts as nothing written.
+fn or_nothing(written: Written) -> Written
+    ensures { λ r. ⌜ r ≡ orNothing written ⌝ }
+{
+    if written.number() == Refusal::Range.number() {
+        return Written::Done { len: 0 };
+    }
+    written
+}
+
 // The line of a message that is sent.
 fn put_sent(c: Controller, numbers: Numbers, head: Head, out: &mut [u8]) -> Written
     ensures { λ r. ⌜ (r ≡ answerOf (fitText numbers c head) (now (out .entry))) × (now (out .exit) ≡ bufferOf (fitText numbers c head) (now (out .entry))) ⌝ }
 {
     let message = c.message(numbers, head);
-    if !message.in_range(numbers.group) {
-        return Written::Done { len: 0 };
-    }
-    write(message, numbers.group, out)
+    or_nothing(write(message, numbers.group, out))
 }
 
 // X where something was refused.
@@ -55,7 +62,7 @@ fn put_rest(
 }
 
 // How much was written.
-fn length_of(written: Written) -> usize
+pub(crate) fn length_of(written: Written) -> usize
     ensures { λ r. ⌜ r ≡ doneLength written ⌝ }
 {
     match written {

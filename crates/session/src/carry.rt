@@ -16,21 +16,25 @@ use message::Head;
 use message::Message;
 use units::Group;
 use units::Verdict;
+use units::limits::LINE;
+
+// One byte more than a line may have.
+const HELD: usize = LINE + 1;
 
 // The first `len` bytes count.
 pub struct Carry {
     pub len: usize,
-    pub bytes: [u8; 601],
+    pub bytes: [u8; HELD],
 }
 
 // How many of n more bytes are held.
 fn fitting(len: usize, n: usize) -> usize
     ensures { λ r. ⌜ r ≡ Rattle.session.specs.Feeding.fitting len n ⌝ }
 {
-    if 601 < len {
+    if HELD < len {
         return 0;
     }
-    let most = 601 - len;
+    let most = HELD - len;
     if n < most { n } else { most }
 }
 
@@ -40,7 +44,7 @@ impl Carry {
     {
         Carry {
             len: 0,
-            bytes: [0u8; 601],
+            bytes: [0u8; HELD],
         }
     }
 

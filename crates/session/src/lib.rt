@@ -2,11 +2,14 @@
 pub mod answer;
 pub mod carry;
 pub mod feed;
+pub mod run;
+pub mod serve;
 pub mod stage;
 pub mod turn;
 
 pub use carry::Carry;
 pub use feed::Fed;
 pub use feed::Session;
+pub use run::Ran;
 pub use stage::Core;
 pub use stage::Stage;

@@ -1,13 +1,19 @@
 // The station program: reads in blocks, hands them to a session, and writes every answer before it waits for more.
-ghost use Prim.Native.Nat.{_+_, _≤_};
+ghost use mathlib.Core.Path.{_≡_};
+ghost use Prim.Native.Nat.{_+_, _-_, _*_, _≤_};
+ghost use lib.Dec.{eqb};
 ghost use lib.ListN.{length};
+ghost use Rattle.units.specs.Limits.{lineTop};
+ghost use Rattle.units.specs.Pick.{pick};
+ghost use Rattle.session.specs.Serving.{served};
 use libc::STDIN_FILENO;
 use libc::STDOUT_FILENO;
 use session::Fed;
 use session::Session;
+use units::limits::LINE;
 
 // Two lines' room, which is always enough.
-const ROOM: usize = 1200;
+const ROOM: usize = 2 * LINE;
 
 // More blocks than any station lives to read.
 const BLOCKS: u64 = 18446744073709551615;
@@ -21,8 +27,8 @@ fn say(text: &[u8], n: usize)
 
 // How much of the buffer is filled, with two lines' room left: what is there is written where the room would be short.
 fn with_room(out: &[u8], filled: usize) -> usize
-    requires { ⌜ (filled ≤ length (now out)) × (1200 ≤ length (now out)) ⌝ }
-    ensures { λ r. ⌜ r + 1200 ≤ length (now (out .entry)) ⌝ }
+    requires { ⌜ (filled ≤ length (now out)) × (2 * lineTop ≤ length (now out)) ⌝ }
+    ensures { λ r. ⌜ r + 2 * lineTop ≤ length (now (out .entry)) ⌝ }
 {
     if out.len() - filled < ROOM {
         say(out, filled);
@@ -31,17 +37,17 @@ fn with_room(out: &[u8], filled: usize) -> usize
     filled
 }
 
-// Feeds the session a piece, with the buffer from a place on for its answers.
+// Hands the session a piece, with the buffer from a place on for its answers.
 fn hand(session: Session, piece: &[u8], out: &mut [u8], start: usize) -> Fed
-    requires { ⌜ (1 ≤ length (now piece)) × (start + 1200 ≤ length (now out)) ⌝ }
-    ensures { λ r. ⌜ (1 ≤ r .took) × (r .took ≤ length (now (piece .entry))) × (start + r .wrote ≤ length (now (out .entry))) ⌝ }
+    requires { ⌜ (1 ≤ length (now piece)) × (start + 2 * lineTop ≤ length (now out)) ⌝ }
+    ensures { λ r. ⌜ (1 ≤ r .took) × (r .took ≤ length (now (piece .entry))) × (start + r .wrote ≤ length (now (out .entry))) × (r ≡ served session (now (piece .entry)) (length (now (out .entry)) - start)) ⌝ }
 {
-    session.feed(piece, &mut out[start..])
+    session.serve(piece, &mut out[start..])
 }
 
-// Hands the first bytes of a block to the session, line by line, and writes all that it answers.
+// Hands the first bytes of a block to the session, as many lines at a time as there is room for, and writes all that it answers.
 fn serve(session: Session, block: &[u8], have: usize, out: &mut [u8]) -> Session
-    requires { ⌜ (have ≤ length (now block)) × (1200 ≤ length (now out)) × (length (now out) ≤ 65536) ⌝ }
+    requires { ⌜ (have ≤ length (now block)) × (2 * lineTop ≤ length (now out)) × (length (now out) ≤ 65536) ⌝ }
 {
     let mut next = session;
     let mut at: usize = 0;
@@ -60,7 +66,7 @@ fn serve(session: Session, block: &[u8], have: usize, out: &mut [u8]) -> Session
 
 // Writes what the end of the input leads to.
 fn close(session: Session, out: &mut [u8])
-    requires { ⌜ 1200 ≤ length (now out) ⌝ }
+    requires { ⌜ 2 * lineTop ≤ length (now out) ⌝ }
 {
     let fed = session.finish(out);
     say(out, fed.wrote);
@@ -69,7 +75,7 @@ fn close(session: Session, out: &mut [u8])
 // How many more blocks may be read: none after the end of the input, or of the session.
 fn blocks_left(left: u64, have: usize, ended: bool) -> u64
     requires { ⌜ 1 ≤ left ⌝ }
-    ensures { λ r. ⌜ r + 1 ≤ left ⌝ }
+    ensures { λ r. ⌜ (r + 1 ≤ left) × (r ≡ pick (eqb have 0) 0 (pick ended 0 (left - 1))) ⌝ }
 {
     if have == 0 {
         return 0;

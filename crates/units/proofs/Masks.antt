@@ -1,10 +1,10 @@
 -- Masks as the code makes them, and their numbers. Assumes nothing.
 use Prim.Native.Nat.{ℕ, _*_, _/_, _%_, _^_, _≤_, _<_, min}
-use native.Mathlib.Nat.{div-eq-of-lt, lt-of-lt-of-le}
+use native.Mathlib.Nat.{div-eq-of-lt, lt-of-lt-of-le, zero-div}
 use mathlib.Core.Bool.{false}
 use lib.Dec.{eqb}
 use native.Mathlib.Omega.{arith}
-use mathlib.Core.Path.{_≡_, sym, ap, _∙_}
+use mathlib.Core.Path.{_≡_, sym, ap}
 use lib.Pow.{pow-mono}
 use Rattle.units.specs.Mask.{inMask, maskEnd}
 
@@ -17,6 +17,10 @@ mask-end-full m h = let e : min m 16 ≡ 16 = omega arith in ap (λ (n : ℕ). 2
 
 pub some-mask : (m : ℕ) → 1 ≤ maskEnd m
 some-mask m = pow-mono {i = 0} {j = min m 16} (omega arith)
+
+-- the empty mask has no run
+pub no-run : (i : ℕ) → inMask 0 i ≡ false
+no-run i = rw (zero-div (2 ^ i))
 
 -- a mask has no bit at 32 or above
 pub no-bit : (mask i : ℕ) → mask < 2 ^ 32 → 32 ≤ i → false ≡ inMask mask i

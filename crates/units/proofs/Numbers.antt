@@ -1,5 +1,4 @@
 -- A refusal with document 01's number 6 is Range. Assumes nothing.
-use Prim.Native.Nat.{ℕ}
 use mathlib.Core.Path.{_≡_, refl}
 use borrow.Author.Tests.{eqb-false}
 use Rattle.units.specs.declared.refusal.Refusal.{Refusal}

@@ -1,9 +1,8 @@
 -- One step of a loop over a list: what is left of it, and what is built of it. Assumes nothing.
 use Prim.Native.Nat.{ℕ, suc, _+_, _≤_, _<_}
 use native.Mathlib.Numerals.{add-one}
-use native.Mathlib.Omega.{arith}
-use mathlib.Core.Path.{_≡_, refl, sym, ap, _∙_}
-use mathlib.Core.List.{List, [], _∷_, _++_, map, append-nil}
+use mathlib.Core.Path.{_≡_, sym, ap, _∙_}
+use mathlib.Core.List.{List, _∷_, _++_, map, append-nil}
 use lib.ListN.{length, getD, take, drop, set, drop-of-length-le, length-map}
 use lib.Seq.{drop-cons, take-suc-set, append-snoc, take-all}
 

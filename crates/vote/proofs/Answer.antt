@@ -1,6 +1,6 @@
 -- `decision` is decided exactly when every completion has the same winner, `winning` is the winner, and each question has one answer.
 -- These are all that the layers above use of the vote. Assumes nothing.
-use Prim.Native.Nat.{ℕ, _+_, _*_, _-_, _%_, _^_, _≤_, _<_}
+use Prim.Native.Nat.{ℕ, _+_, _*_, _%_, _^_, _≤_, _<_}
 use native.Mathlib.Omega.{arith}
 use native.Mathlib.Decide.{decLe}
 use mathlib.Core.Path.{_≡_, refl, sym, ap, subst, subst⁻¹, _∙_}
@@ -21,8 +21,8 @@ use Rattle.vote.specs.declared.judge.Decision.the-variants.{Undecided, D
 use Rattle.vote.specs.declared.judge.Poll.{Poll}
 use Rattle.vote.specs.declared.judge.Poll.the-variants.{Nobody, Won, Refused as Denied}
 use Rattle.vote.specs.Digest.{legal, rank, unrank}
-use Rattle.vote.specs.Vote.{gap, total, count, missing, Wins, Decides, Answers, Names, ballotOf, allBallots, ballots, rankOf, votesFit}
-use Rattle.vote.specs.Decision.{ranksOf, tallyOf, strengths, largest, missingOf, heldOff, rivalOf, settledAt, settled, decision, strongestAt, winning}
+use Rattle.vote.specs.Vote.{total, count, missing, Wins, Decides, Answers, Names, ballotOf, allBallots, ballots, rankOf, votesFit}
+use Rattle.vote.specs.Decision.{ranksOf, strengths, largest, missingOf, heldOff, rivalOf, settledAt, settled, decision, strongestAt, winning}
 use Rattle.vote.proofs.Order.{same-dec, unrank-rank, rank-below}
 use Rattle.vote.proofs.Counting.{all-voted, as-it-is}
 use Rattle.vote.proofs.Facts.{round, all-legal, group-legal, same-count, more-missing, seats-seven}

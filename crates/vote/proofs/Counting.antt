@@ -1,8 +1,8 @@
 -- Counts in a list of ballots and in its completions. Assumes nothing.
-use Prim.Native.Nat.{ℕ, zero, suc, _+_, _≤_, _<_}
+use Prim.Native.Nat.{ℕ, _+_, _≤_}
 use native.Mathlib.Omega.{arith}
 use native.Mathlib.Decide.{decLe}
-use mathlib.Core.Path.{_≡_, refl, sym, ap, subst, _∙_}
+use mathlib.Core.Path.{_≡_, refl, ap, subst}
 use mathlib.Core.Bool.{Bool, true, false}
 use mathlib.Core.List.{List, [], _∷_, _++_}
 use mathlib.Core.Logic.{_⊎_, inl, inr, ⊎-elim, by-cases}
@@ -11,7 +11,7 @@ use Rattle.vote.specs.declared.digest.Digest.{Digest}
 use Rattle.vote.specs.declared.votes.Ballot.{Ballot}
 use Rattle.vote.specs.declared.votes.Ballot.the-variants.{Missing, Cast}
 use Rattle.vote.specs.Digest.{legal, same}
-use Rattle.vote.specs.Vote.{bit, votesFor, gap, total, count, missing, Completes, done, kept, filled}
+use Rattle.vote.specs.Vote.{bit, votesFor, total, count, missing, Completes, done, kept, filled}
 use Rattle.vote.proofs.Order.{same-true, same-refl, same-dec}
 
 bit-le : (b : Bool) → bit b ≤ 1

@@ -1,5 +1,5 @@
 -- The order is the one that document 01 names: the number of measurements, then the state label, then the mask as a number. Assumes nothing.
-use Prim.Native.Nat.{ℕ, _^_, _<_}
+use Prim.Native.Nat.{ℕ, _<_}
 use native.Mathlib.Omega.{arith}
 use native.Mathlib.Decide.{decLt}
 use mathlib.Core.Logic.{_⊎_, inl, inr, ⊎-elim, by-cases}

@@ -1,5 +1,5 @@
 -- The laws of the order of digests: all that the layers above know of `rank`. Assumes nothing.
-use Prim.Native.Nat.{ℕ, zero, suc, _+_, _*_, _-_, _/_, _%_, _^_, _≤_, _<_}
+use Prim.Native.Nat.{ℕ, zero, suc, _-_, _/_, _%_, _^_, _≤_, _<_}
 use native.Mathlib.Omega.{arith}
 use native.Mathlib.Decide.{decLe}
 use native.Mathlib.Nat.{le-refl}
@@ -30,7 +30,7 @@ pub same-refl : (d : Digest) → same d d ≡ true
 unfolding same
 same-refl d = rw (eq-eqb (d .mask) (d .mask) refl, eq-eqb (d .state .0) (d .state .0) refl)
 
-pub same-false : (d e : Digest) → same d e ≡ false → d ≡ e → ⊥
+same-false : (d e : Digest) → same d e ≡ false → d ≡ e → ⊥
 same-false d e h p =
     let q : same e e ≡ false = rw p at h in
     let r : same e e ≡ true = same-refl e in

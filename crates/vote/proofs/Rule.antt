@@ -13,10 +13,10 @@ use Rattle.units.specs.declared.labels.RoundLabel.{RoundLabel}
 use Rattle.units.specs.Pick.{pick}
 use Rattle.vote.specs.declared.digest.Digest.{Digest}
 use Rattle.vote.specs.declared.votes.Ballot.{Ballot}
-use Rattle.vote.specs.Digest.{legal, rank, unrank, full, least}
+use Rattle.vote.specs.Digest.{legal, rank, full, least}
 use Rattle.vote.specs.Vote.{count, rankOf}
 use Rattle.vote.specs.Decision.{strengthOf, strengths, largest, otherThan, othersThan, outsider, heldOff, rivalOf}
-use Rattle.vote.proofs.Order.{Round, same-dec, rank-injective, rank-below, unrank-rank, full-legal, full-largest, least-legal, least-smallest}
+use Rattle.vote.proofs.Order.{Round, same-dec, rank-injective, rank-below, full-legal, full-largest, least-legal, least-smallest}
 use Rattle.vote.proofs.Counting.{All, all-voted}
 use Rattle.vote.proofs.Exact.{Trails, Safe}
 use Rattle.vote.proofs.Strength.{rank-some, strength-is, largest-above, largest-found}

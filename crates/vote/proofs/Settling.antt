@@ -8,9 +8,7 @@ use Rattle.units.specs.declared.labels.RoundLabel.{RoundLabel}
 use Rattle.units.specs.declared.settings.Group.{Group}
 use Rattle.units.proofs.Picked.{by-yes, by-no}
 use Rattle.vote.specs.declared.digest.Digest.{Digest}
-use Rattle.vote.specs.declared.judge.Decision.{Decision}
 use Rattle.vote.specs.declared.judge.Decision.the-variants.{Undecided, Decided}
-use Rattle.vote.specs.declared.judge.Poll.{Poll}
 use Rattle.vote.specs.declared.judge.Poll.the-variants.{Nobody, Won}
 use Rattle.vote.specs.Digest.{unrank}
 use Rattle.vote.specs.Decision.{strengths, largest, missingOf, heldOff, rivalOf, settledAt, settled, strongestAt}

@@ -1,9 +1,9 @@
 -- Ranks stand for legal votes: their tallies are the counts, and the strongest is the winner. Assumes nothing.
-use Prim.Native.Nat.{ℕ, _+_, _*_, _%_, _^_, _≤_, _<_, max}
+use Prim.Native.Nat.{ℕ, _+_, _*_, _^_, _≤_}
 use native.Mathlib.Omega.{arith}
 use native.Mathlib.Decide.{decLe}
-use mathlib.Core.Path.{_≡_, refl, sym, ap, _∙_}
-use mathlib.Core.Bool.{Bool, true, false}
+use mathlib.Core.Path.{_≡_, refl, ap}
+use mathlib.Core.Bool.{true}
 use mathlib.Core.List.{List, [], _∷_, map}
 use mathlib.Core.Logic.{_⊎_, inl, inr, ⊎-elim, by-cases}
 use lib.Dec.{eqb}
@@ -14,9 +14,9 @@ use Rattle.vote.specs.declared.digest.Digest.{Digest}
 use Rattle.vote.specs.declared.votes.Ballot.{Ballot}
 use Rattle.vote.specs.declared.votes.Ballot.the-variants.{Missing, Cast}
 use Rattle.vote.specs.Digest.{legal, same, rank, least}
-use Rattle.vote.specs.Vote.{bit, votesFor, gap, total, count, missing, rankOf}
+use Rattle.vote.specs.Vote.{bit, votesFor, total, count, missing, rankOf}
 use Rattle.vote.specs.Decision.{tallyOf, strengthOf, largest}
-use Rattle.vote.proofs.Order.{Round, same-dec, same-refl, rank-injective, rank-below, least-smallest, least-some}
+use Rattle.vote.proofs.Order.{Round, same-dec, rank-injective, rank-below, least-smallest, least-some}
 use Rattle.vote.proofs.Counting.{All, for-self, for-other}
 
 module _ (m : ℕ) (label : RoundLabel) (w : Round m label) where
@@ -24,7 +24,7 @@ module _ (m : ℕ) (label : RoundLabel) (w : Round m label) where
   rank-some d h = omega (arith, least-some, least-smallest m label w d h)
 
   -- a rank stands there as often as its digest was voted
-  pub tally-count : (d : Digest) → legal m label d ≡ true → (s : List Ballot) → All (λ e. legal m label e ≡ true) s → tallyOf (rank d) (map rankOf s) ≡ count d s
+  tally-count : (d : Digest) → legal m label d ≡ true → (s : List Ballot) → All (λ e. legal m label e ≡ true) s → tallyOf (rank d) (map rankOf s) ≡ count d s
   unfolding tallyOf total All
   tally-count d h [] ok = refl
   tally-count d h (Missing ∷ s) ok =

@@ -1,7 +1,7 @@
 -- The decision and the winner as functions of the votes, by ranks alone. That they are what specs/Vote.antt asks is
 -- `decision-exact` and `winning-exact` of proofs/Answer.antt; callers cite those and never this text.
 use Prim.Native.Nat.{ℕ, _+_, _*_, _-_, _%_, _^_, max}
-use mathlib.Core.Bool.{Bool, true, false}
+use mathlib.Core.Bool.{Bool, true}
 use Rattle.units.specs.Limits.{controllersTop}
 use Rattle.units.specs.Pick.{pick}
 use mathlib.Core.List.{List, [], _∷_, map}

@@ -6,7 +6,6 @@ use mathlib.Core.List.{List, [], _∷_, map}
 use lib.Dec.{eqb, ltb}
 use lib.ListN.{length, take, getD}
 use Rattle.units.specs.declared.labels.RoundLabel.{RoundLabel}
-use Rattle.units.specs.declared.refusal.Refusal.{Refusal}
 use Rattle.units.specs.declared.settings.Group.{Group}
 use Rattle.units.specs.Every.{every}
 use Rattle.units.specs.Labels.{roundFits}

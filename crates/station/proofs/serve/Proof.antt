@@ -1,15 +1,16 @@
 -- `serve` is safe and ends. Assumes nothing.
-use Prim.Native.Nat.{_-_, _≤_}
+use Prim.Native.Nat.{_-_, _*_, _≤_}
 use mathlib.Core.Path.{_≡_, refl}
 use native.Mathlib.Omega.{arith}
 use borrow.Author.Needs.{needs}
 use lib.ListN.{length}
 use borrow.Rule.Slice.PartMut.{mid-len}
+use Rattle.units.specs.Limits.{lineTop}
 use Rattle.station.proofs.serve.Statement.{statement}
 use Rattle.station.proofs.serve.Tie as tie
 
 abbrev Inv-loop : tie.InvT-loop
-Inv-loop block have out₀ next₀ at₀ filled₀ out next at filled = (have ≤ length block) × (1200 ≤ length out) × (length out ≡ length out₀) × (at ≤ have) × (filled ≤ length out)
+Inv-loop block have out₀ next₀ at₀ filled₀ out next at filled = (have ≤ length block) × (2 * lineTop ≤ length out) × (length out ≡ length out₀) × (at ≤ have) × (filled ≤ length out)
 
 abbrev μ-loop : tie.MeasureT-loop
 μ-loop block have out₀ next₀ at₀ filled₀ out next at filled = have - at

@@ -2,7 +2,7 @@
 use borrow.Author.Needs.{needs}
 use Prim.Native.Nat.{ℕ, _-_, _≤_, _<_}
 use native.Mathlib.Omega.{arith}
-use mathlib.Core.Path.{_≡_, refl}
+use mathlib.Core.Path.{refl}
 use lib.Dec.{ltb}
 use lib.ListN.{replicate}
 use Rattle.units.specs.declared.estimate.Estimate.{Estimate}

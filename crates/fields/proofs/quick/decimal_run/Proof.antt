@@ -5,7 +5,6 @@ use native.Mathlib.Omega.{arith}
 use Prim.Native.Nat.{_-_}
 use borrow.Author.Needs.{needs}
 use Rattle.fields.proofs.Quicks.{Running, run-start, run-stop, run-again, run-end, digit-taken}
-use Rattle.fields.proofs.Reading.{grown-less, grown-fits}
 use Rattle.fields.proofs.quick.decimal_run.Statement.{statement}
 use Rattle.fields.proofs.quick.decimal_run.Tie as tie
 

@@ -1,6 +1,5 @@
 -- `mask_here` meets its contract. Assumes nothing.
-use native.Mathlib.Omega.{arith}
-use Rattle.fields.proofs.Quicks.{mask-wrong, mask-within, mask-said}
+use Rattle.fields.proofs.Quicks.{mask-wrong, mask-said}
 use borrow.Author.Needs.{needs}
 use Rattle.fields.proofs.quick.mask_here.Statement.{statement}
 use Rattle.fields.proofs.quick.mask_here.Tie as tie

@@ -1,5 +1,4 @@
 -- `numbers_in` meets its contract. Assumes nothing.
-use native.Mathlib.Omega.{arith}
 use Rattle.lines.proofs.Straights.{all-not, head-trod, total-more, all-heads, all-total}
 use borrow.Author.Needs.{needs}
 use Rattle.lines.proofs.straight.numbers_in.Statement.{statement}

@@ -1,8 +1,9 @@
 -- `reading_in` meets its contract. Assumes nothing.
 use native.Mathlib.Omega.{arith}
-use Rattle.lines.proofs.Straights.{reading-decimal, trod-after, not-good}
+use Rattle.lines.proofs.Straights.{reading-decimal, trod-after}
 use Rattle.lines.specs.declared.kind.Kind.the-variants.{Reading}
 use borrow.Author.Needs.{needs}
+use Rattle.units.proofs.Every.{no-way}
 use Rattle.lines.proofs.straight.reading_in.Statement.{statement}
 use Rattle.lines.proofs.straight.reading_in.Tie as tie
 
@@ -16,7 +17,7 @@ enum-known-first : tie.Need-enum-known-first
 enum-known-first c = search needs
 
 returns : tie.Need-returns
-returns c = λ e. not-good e
+returns c = λ e. no-way e
 
 element-write-v : tie.Need-element-write-v
 element-write-v c = search needs
@@ -31,7 +32,7 @@ enum-known-second : tie.Need-enum-known-second
 enum-known-second c = search needs
 
 returns-2 : tie.Need-returns-2
-returns-2 c = λ e. not-good e
+returns-2 c = λ e. no-way e
 
 element-write-v-2 : tie.Need-element-write-v-2
 element-write-v-2 c = search needs
@@ -46,7 +47,7 @@ enum-known-third : tie.Need-enum-known-third
 enum-known-third c = search needs
 
 returns-3 : tie.Need-returns-3
-returns-3 c = λ e. not-good e
+returns-3 c = λ e. no-way e
 
 element-write-v-3 : tie.Need-element-write-v-3
 element-write-v-3 c = search needs

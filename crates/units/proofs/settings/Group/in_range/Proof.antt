@@ -1,11 +1,9 @@
+-- `Group::in_range` meets its contract. Assumes nothing.
 use mathlib.Core.Path.{refl}
 use Rattle.units.specs.Settings.{groupFits}
 use Rattle.units.proofs.settings.Group.in_range.Statement.{statement}
 use Rattle.units.proofs.settings.Group.in_range.Tie as tie
-use Rattle.units.proofs.settings.Group.in_range.Reads as reads
-use Rattle.units.proofs.settings.Group.in_range.Lts as lts
 
--- src/settings.rt:24:5
 returns : tie.Need-returns
 unfolding groupFits
 returns c = refl

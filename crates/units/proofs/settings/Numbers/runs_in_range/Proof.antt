@@ -1,5 +1,5 @@
 -- `Numbers::runs_in_range` meets its contract: after i places the test so far is `every` up to i. Assumes nothing.
-use Prim.Native.Nat.{ℕ, _-_, _≤_}
+use Prim.Native.Nat.{_-_, _≤_}
 use native.Mathlib.Omega.{arith}
 use mathlib.Core.Path.{_≡_, refl, ap, _∙_}
 use borrow.Author.Needs.{needs}
@@ -8,9 +8,6 @@ use Rattle.units.specs.Settings.{placeAt, runsFit}
 use Rattle.units.proofs.Every.{every-more}
 use Rattle.units.proofs.settings.Numbers.runs_in_range.Statement.{statement}
 use Rattle.units.proofs.settings.Numbers.runs_in_range.Tie as tie
-use Rattle.units.proofs.settings.Numbers.runs_in_range.Reads as reads
-use Rattle.units.proofs.settings.Numbers.runs_in_range.Lts as lts
-use Rattle.units.proofs.settings.place_in_range.Reads as place-in-range-reads
 
 abbrev Inv-loop : tie.InvT-loop
 Inv-loop self m fit₀ i₀ fit i = (i ≤ 16) × (fit ≡ every (placeAt self) i)

@@ -1,0 +1,84 @@
+-- `Session::serve` meets its contract. Assumes nothing.
+use Prim.Native.Nat.{ℕ, _+_, _-_, _≤_, _<_}
+use native.Mathlib.Omega.{arith}
+use mathlib.Core.Path.{_≡_, refl, sym, ap, _∙_}
+use mathlib.Core.List.{List}
+use lib.ListN.{length}
+use borrow.Author.Tests.{not-true, not-false}
+use Rattle.session.specs.declared.stage.Core.{Core}
+use Rattle.session.specs.Serving.{servedText}
+use Rattle.session.proofs.Room.{call-took, buffer-length}
+use Rattle.session.proofs.Adding.{sum-fits}
+use Rattle.session.proofs.Serving.{code-stays, code-wrote, code-goes}
+use borrow.Author.Needs.{needs}
+use Rattle.session.proofs.feed.Session.serve.Statement.{statement}
+use Rattle.session.proofs.feed.Session.serve.Tie as tie
+
+feed-requires : tie.Need-feed-requires
+feed-requires c κs = search needs
+
+may-run-requires : tie.Need-may-run-requires
+may-run-requires c κs = search needs
+
+same-length : tie.Need-same-length
+same-length c = search needs
+
+returns : tie.Need-returns
+returns c = let a = c .before .before .before .before .before .before .before .before .before .args in let f = c .before .before .before .before .before .feed in code-stays (a .self) (a .input .now) (a .out .now) _ (f .ensures .1) (f .result) (f .ensures .0) (sym (c .before .may-run .ensures) ∙ not-true _ (c .if1 .taken))
+
+sub-run-lines : tie.Need-sub-run-lines
+sub-run-lines c = let f = c .before .before .before .before .before .before .before .before .before .feed in call-took _ _ _ (f .result) (f .ensures .0)
+
+part-run-lines-start : tie.Need-part-run-lines-start
+part-run-lines-start c = let f = c .before .before .before .before .before .before .before .before .before .feed in call-took _ _ _ (f .result) (f .ensures .0)
+
+part-run-lines-end : tie.Need-part-run-lines-end
+part-run-lines-end c = search needs
+
+sub-run-lines-2 : tie.Need-sub-run-lines-2
+sub-run-lines-2 c = let a = c .before .before .before .before .before .before .before .before .before .before .before .before .before .before .args in let f = c .before .before .before .before .before .before .before .before .before .before .feed in code-wrote (a .self) (a .input .now) (a .out .now) _ (f .ensures .1) (f .result) (f .ensures .0)
+
+part-run-lines-start-2 : tie.Need-part-run-lines-start-2
+part-run-lines-start-2 c = let a = c .before .before .before .before .before .before .before .before .before .before .before .before .before .before .args in let f = c .before .before .before .before .before .before .before .before .before .before .feed in code-wrote (a .self) (a .input .now) (a .out .now) _ (f .ensures .1) (f .result) (f .ensures .0)
+
+part-run-lines-end-2 : tie.Need-part-run-lines-end-2
+part-run-lines-end-2 c = search needs
+
+run-lines-requires : tie.Need-run-lines-requires
+run-lines-requires c κs = search needs
+
+running-requires : tie.Need-running-requires
+running-requires c κs = search needs
+
+add-t20 : tie.Need-add-t20
+add-t20 c = let a = c .before .before .before .before .before .before .before .before .before .before .before .before .before .before .before .before .before .before .before .before .before .args in let f = c .before .before .before .before .before .before .before .before .before .before .before .before .before .before .before .before .before .feed in let g = code-goes (a .self) (a .input .now) (a .out .now) _ (f .ensures .1) (f .result) (f .ensures .0) (sym (c .before .before .before .before .before .before .before .before .before .before .before .before .before .may-run .ensures) ∙ not-false _ (c .before .before .before .before .before .before .before .before .before .before .before .before .if1 .left)) (c .before .before .before .before .before .run-lines .result) _ (c .before .before .before .before .before .run-lines .ensures) in let t : length (a .input .now) < 18446744073709551616 = omega (arith, c .before .before .before .before .before .before .before .before .before .before .before .before .before .before .before .before .before .before .before .before .before .good) in sum-fits _ _ (g .0 .0) t
+
+add-t24 : tie.Need-add-t24
+add-t24 c = let a = c .before .before .before .before .before .before .before .before .before .before .before .before .before .before .before .before .before .before .before .before .before .before .args in let f = c .before .before .before .before .before .before .before .before .before .before .before .before .before .before .before .before .before .before .feed in let g = code-goes (a .self) (a .input .now) (a .out .now) _ (f .ensures .1) (f .result) (f .ensures .0) (sym (c .before .before .before .before .before .before .before .before .before .before .before .before .before .before .may-run .ensures) ∙ not-false _ (c .before .before .before .before .before .before .before .before .before .before .before .before .before .if1 .left)) (c .before .before .before .before .before .before .run-lines .result) _ (c .before .before .before .before .before .before .run-lines .ensures) in let t : length (a .out .now) < 18446744073709551616 = omega (arith, c .before .before .before .before .before .before .before .before .before .before .before .before .before .before .before .before .before .before .before .before .before .before .good) in sum-fits _ _ (g .0 .1) t
+
+same-length-2 : tie.Need-same-length-2
+same-length-2 c = let a = c .before .before .before .before .before .before .before .before .before .before .before .before .before .before .before .before .before .before .before .before .before .before .args in let f = c .before .before .before .before .before .before .before .before .before .before .before .before .before .before .before .before .before .before .feed in let g = code-goes (a .self) (a .input .now) (a .out .now) _ (f .ensures .1) (f .result) (f .ensures .0) (sym (c .before .before .before .before .before .before .before .before .before .before .before .before .before .before .may-run .ensures) ∙ not-false _ (c .before .before .before .before .before .before .before .before .before .before .before .before .before .if1 .left)) (c .before .before .before .before .before .before .run-lines .result) _ (c .before .before .before .before .before .before .run-lines .ensures) in ap (λ (l : List ℕ). length l) (g .2) ∙ buffer-length (servedText (a .self) (a .input .now) (length (a .out .now))) (a .out .now)
+
+returns-2 : tie.Need-returns-2
+returns-2 c = let a = c .before .before .before .before .before .before .before .before .before .before .before .before .before .before .before .before .before .before .before .before .before .before .args in let f = c .before .before .before .before .before .before .before .before .before .before .before .before .before .before .before .before .before .before .feed in let g = code-goes (a .self) (a .input .now) (a .out .now) _ (f .ensures .1) (f .result) (f .ensures .0) (sym (c .before .before .before .before .before .before .before .before .before .before .before .before .before .before .may-run .ensures) ∙ not-false _ (c .before .before .before .before .before .before .before .before .before .before .before .before .before .if1 .left)) (c .before .before .before .before .before .before .run-lines .result) _ (c .before .before .before .before .before .before .run-lines .ensures) in (ap (λ (k : Core). record { next = record { core = k; carry = f .result .next .carry }; took = f .result .took + c .before .before .before .before .before .before .run-lines .result .took; wrote = f .result .wrote + c .before .before .before .before .before .before .run-lines .result .wrote; verdict = f .result .verdict }) (c .before .before .running .ensures) ∙ g .1, g .2)
+
+pub serve-spec : {M : Type 1} → statement M
+serve-spec =
+    tie.close
+    (tie.spec
+    feed-requires
+    may-run-requires
+    same-length
+    returns
+    sub-run-lines
+    part-run-lines-start
+    part-run-lines-end
+    sub-run-lines-2
+    part-run-lines-start-2
+    part-run-lines-end-2
+    run-lines-requires
+    running-requires
+    add-t20
+    add-t24
+    same-length-2
+    returns-2)
