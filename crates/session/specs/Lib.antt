@@ -3,6 +3,7 @@ pub mod Turn
 pub mod Feeding
 pub mod Serving
 pub mod Station
+pub mod Example
 pub mod Reach
 pub mod Pieces
 pub mod Demand

@@ -2,10 +2,11 @@
 ghost use mathlib.Core.Path.{_≡_};
 ghost use Prim.Native.Nat.{_+_, _-_, _*_, _≤_};
 ghost use lib.Dec.{eqb};
-ghost use lib.ListN.{length};
+ghost use lib.ListN.{length, take};
 ghost use Rattle.units.specs.Limits.{lineTop};
 ghost use Rattle.units.specs.Pick.{pick};
 ghost use Rattle.session.specs.Serving.{served};
+ghost use Rattle.station.specs.Serving.{Led};
 use libc::STDIN_FILENO;
 use libc::STDOUT_FILENO;
 use session::Fed;
@@ -48,6 +49,7 @@ fn hand(session: Session, piece: &[u8], out: &mut [u8], start: usize) -> Fed
 // Hands the first bytes of a block to the session, as many lines at a time as there is room for, and writes all that it answers.
 fn serve(session: Session, block: &[u8], have: usize, out: &mut [u8]) -> Session
     requires { ⌜ (have ≤ length (now block)) × (2 * lineTop ≤ length (now out)) × (length (now out) ≤ 65536) ⌝ }
+    ensures { λ r. ⌜ Led session (take have (now (block .entry))) r ⌝ }
 {
     let mut next = session;
     let mut at: usize = 0;

@@ -1,22 +1,29 @@
--- `serve` is safe and ends. Assumes nothing.
+-- `serve` feeds exactly the block's first bytes. Assumes nothing.
 use Prim.Native.Nat.{_-_, _*_, _≤_}
-use mathlib.Core.Path.{_≡_, refl}
+use mathlib.Core.Path.{_≡_, refl, sym, subst}
 use native.Mathlib.Omega.{arith}
 use borrow.Author.Needs.{needs}
+use Prim.Native.Nat.{ℕ}
+use mathlib.Core.List.{List, []}
 use lib.ListN.{length}
+use Rattle.session.specs.declared.feed.Session.{Session}
+use Rattle.session.specs.Pieces.{Feeds}
+use Rattle.session.specs.Pieces.Feeds.{none}
+use Rattle.station.specs.Serving.{Led}
+use Rattle.station.proofs.Serving.{left, left-on, left-none, left-all, led-on}
 use borrow.Rule.Slice.PartMut.{mid-len}
 use Rattle.units.specs.Limits.{lineTop}
 use Rattle.station.proofs.serve.Statement.{statement}
 use Rattle.station.proofs.serve.Tie as tie
 
 abbrev Inv-loop : tie.InvT-loop
-Inv-loop block have out₀ next₀ at₀ filled₀ out next at filled = (have ≤ length block) × (2 * lineTop ≤ length out) × (length out ≡ length out₀) × (at ≤ have) × (filled ≤ length out)
+Inv-loop block have out₀ next₀ at₀ filled₀ out next at filled = (have ≤ length block) × (2 * lineTop ≤ length out) × (length out ≡ length out₀) × (at ≤ have) × (filled ≤ length out) × ((n : Session) (t : List ℕ) → Feeds next (left block have at) t n → Led next₀ (left block have at₀) n)
 
 abbrev μ-loop : tie.MeasureT-loop
 μ-loop block have out₀ next₀ at₀ filled₀ out next at filled = have - at
 
 loop-holds : tie.Need-loop-holds Inv-loop μ-loop
-loop-holds c = (omega (arith, c .before .before .pre .0), omega (arith, c .before .before .pre .1), refl, omega arith, omega arith)
+loop-holds c = (omega (arith, c .before .before .pre .0), omega (arith, c .before .before .pre .1), refl, omega arith, omega arith, λ n t f. record { text = t; calls = f })
 
 with-room-requires : tie.Need-with-room-requires Inv-loop μ-loop
 with-room-requires c κs = let i = c .before .before .loop .inv in (i .4, i .1)
@@ -43,7 +50,7 @@ loop-less : tie.Need-loop-less Inv-loop μ-loop
 loop-less c = let a = c .before .before .before .before .before .before .before .before .before .before .before .before .before .before .args in let i = c .before .before .before .before .before .before .before .before .before .before .before .loop .inv in let m = mid-len (c .before .before .before .before .before .before .before .before .before .before .before .loop .at) (a .have) (a .block .now) (i .0) in let h = c .before .before .before .before .before .hand .ensures in omega (arith, m, h .0, h .1, h .2, i .0, i .3)
 
 loop-again : tie.Need-loop-again Inv-loop μ-loop
-loop-again c = let a = c .before .before .before .before .before .before .before .before .before .before .before .before .before .before .args in let i = c .before .before .before .before .before .before .before .before .before .before .before .loop .inv in let m = mid-len (c .before .before .before .before .before .before .before .before .before .before .before .loop .at) (a .have) (a .block .now) (i .0) in let h = c .before .before .before .before .before .hand .ensures in (i .0, omega arith, omega arith, omega (arith, m, h .1, i .3), omega (arith, h .2))
+loop-again c = let a = c .before .before .before .before .before .before .before .before .before .before .before .before .before .before .args in let i = c .before .before .before .before .before .before .before .before .before .before .before .loop .inv in let m = mid-len (c .before .before .before .before .before .before .before .before .before .before .before .loop .at) (a .have) (a .block .now) (i .0) in let h = c .before .before .before .before .before .hand .ensures in (i .0, omega arith, omega arith, omega (arith, m, h .1, i .3), omega (arith, h .2), λ n t f. let k = c .before .before .before .before .before .before .before .before .before .before .before .loop in let r = c .before .before .before .before .before .hand .result in let u = led-on (k .next) n (left (a .block .now) (a .have) (k .at)) t _ r (h .3) (subst (λ (l : List ℕ). Feeds (r .next) l t n) (sym (left-on (a .block .now) (a .have) (k .at) (r .took))) f) in i .5 n (u .text) (u .calls))
 
 say-requires : tie.Need-say-requires Inv-loop μ-loop
 say-requires c κs = let i = c .before .before .loop .inv in i .4
@@ -52,7 +59,7 @@ same-length : tie.Need-same-length Inv-loop μ-loop
 same-length c = search needs
 
 returns : tie.Need-returns Inv-loop μ-loop
-returns c = search needs
+returns c = let a = c .before .before .before .before .before .before .args in let k = c .before .before .before .loop in let i = k .inv in let w = i .5 (k .next) [] (subst (λ (l : List ℕ). Feeds (k .next) l [] (k .next)) (sym (left-none (a .block .now) (a .have) (k .at) (c .before .before .loop-test .left))) none) in subst (λ (l : List ℕ). Led (a .session) l (k .next)) (left-all (a .block .now) (a .have)) w
 
 pub serve-spec : {M : Type 1} → statement M
 serve-spec =

@@ -1,0 +1,64 @@
+-- DOCUMENT 01'S SESSION AS A WHOLE: the station program's output for its input, from bytes to bytes, which the checker computes. Assumes nothing.
+use Prim.Native.Nat.{ℕ, _≤_}
+use mathlib.Core.Path.{_≡_, refl, _∙_}
+use mathlib.Core.List.{List, _++_}
+use lib.Count.{ones}
+use lib.Ieee.{lt, le, eq, add, sub, mul, div, ofInt, ofBits, toBits, fits}
+use lib.ListN.{length, take}
+use Rattle.units.specs.Every.{every}
+use Rattle.units.specs.Limits.{lineTop}
+use Rattle.units.specs.Pick.{pick}
+use Rattle.units.specs.Settings.{groupFits, runsFit, numbersFit}
+use Rattle.floats.specs.Bits.{bitsOf, floatOf, sameFloat}
+use Rattle.floats.specs.Ranges.{estimateFits, sameEstimate, stateFits, targetsFit}
+use Rattle.vote.specs.Digest.{legal, same, rank, unrank, full, least}
+use Rattle.vote.specs.Vote.{seatFits, seatsFit, votesFit}
+use Rattle.vote.specs.Decision.{tallyOf, strengthOf, largest, otherThan, outsider, missingOf, heldOff, rivalOf, settledAt, settled, decision}
+use Rattle.filter.specs.Run.{atMost, limited, grown, measured, gain, moved, shrunk, outcome}
+use Rattle.filter.specs.Step.{tab, place}
+use Rattle.filter.specs.Step as Rounds
+use Rattle.filter.specs.Share.{addAll, total, sumOf, weightSum, target, share, targets}
+use Rattle.filter.specs.Compute.{newState, setPoints}
+use Rattle.fields.specs.Certificate.{allVisible, isCertificate}
+use Rattle.fields.specs.Digits.{digitOf, charOf, valueFrom, fixedIn, fixed, decimalIn, decimal}
+use Rattle.fields.specs.Field as Fields
+use Rattle.fields.specs.Field.{decimalSaid, factorSaid, saidBy, pointed, spelled, judge, readField}
+use Rattle.fields.specs.Put.{written}
+use Rattle.fields.specs.Text.{until, laterFields, tabbed}
+use Rattle.message.specs.Head.{headFits, carried}
+use Rattle.message.specs.Message.{plain, messageFits}
+use Rattle.message.specs.Readings.{readingsFit}
+use Rattle.plan.specs.Plan.{afterwards}
+use Rattle.plan.specs.Readings.{collected, sameRound, planReading}
+use Rattle.plan.specs.States.{planAdvert}
+use Rattle.plan.specs.Timers.{inEnds, planEnds}
+use Rattle.plan.specs.Votes.{inFloor, planFloor, possessed, chosenPlan, judged}
+use Rattle.lines.specs.Lists.{column, joined}
+use Rattle.lines.specs.Reading.{readAll, readValues, readText, readLine}
+use Rattle.lines.specs.Settling.{started, settleWeight, settleFactor, settleCertificate, settleRun, isKind, settleText, settleLine}
+use Rattle.lines.specs.Table.{kindOf, quantityAt, limitFor, countOf}
+use Rattle.lines.specs.Values.{headOf, messageWith, kindIs, headValues, valuesOf}
+use Rattle.lines.specs.Writing.{lineOf, spellLine, refusalLine, bufferOf}
+use Rattle.controller.specs.State.{phaseFits, controllerFits}
+use Rattle.controller.specs.Start.{startEstimates, startOf}
+use Rattle.controller.specs.Merge.{runBit}
+use Rattle.controller.specs.Effects.{applied}
+use Rattle.controller.specs.Sent.{sentMessage}
+use Rattle.controller.specs.Step.{judgedIn, judgedPlan, planned, inputsFit, stepped}
+use Rattle.session.specs.declared.feed.Session.{Session}
+use Rattle.session.specs.Example.{bytesOf, sessionInput, sessionOutput}
+use Rattle.session.specs.Feeding.{lastTurn, finished, sessionStart}
+use Rattle.session.specs.Pieces.{Feeds}
+use Rattle.session.specs.Station.{linesOf, closing, answers, station}
+use Rattle.session.specs.Turn.{coreStart, settlesTo, waitsFor, hears, sentText, verdictText, answerText, turnBy}
+use Rattle.session.proofs.Whole.{whole}
+
+-- every byte that comes out, for every byte that goes in
+pub session : station sessionInput ≡ sessionOutput
+unfolding bytesOf sessionInput sessionOutput linesOf closing answers coreStart settlesTo waitsFor hears sentText verdictText answerText turnBy ones lt le eq add sub mul div ofInt ofBits toBits fits every pick groupFits runsFit numbersFit bitsOf floatOf sameFloat estimateFits sameEstimate stateFits targetsFit legal same rank unrank full least seatFits seatsFit votesFit tallyOf strengthOf largest otherThan outsider missingOf heldOff rivalOf settledAt settled decision atMost limited grown measured gain moved shrunk outcome tab place Rounds.stepped addAll total sumOf weightSum target share targets newState setPoints allVisible isCertificate digitOf charOf valueFrom fixedIn fixed decimalIn decimal Fields.plain decimalSaid factorSaid saidBy pointed spelled Fields.fits judge readField written until laterFields tabbed headFits carried plain messageFits readingsFit afterwards collected sameRound planReading planAdvert inEnds planEnds inFloor planFloor possessed chosenPlan judged column joined readAll readValues readText readLine started settleWeight settleFactor settleCertificate settleRun isKind settleText settleLine kindOf quantityAt limitFor countOf headOf messageWith kindIs headValues valuesOf lineOf spellLine refusalLine phaseFits controllerFits startEstimates startOf runBit applied sentMessage judgedIn judgedPlan planned inputsFit stepped
+session = refl
+
+-- so these bytes are written for those, however they are cut into pieces and whatever buffers are lent
+pub session-fed : {out : List ℕ} {y : Session} → Feeds sessionStart sessionInput out y → (buf : List ℕ) → lineTop ≤ length buf
+    → out ++ take (finished y (length buf) .wrote) (bufferOf (lastTurn y .text) buf) ≡ sessionOutput
+session-fed f buf h = whole f buf h ∙ session

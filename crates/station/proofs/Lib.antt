@@ -1,0 +1,2 @@
+-- The laws of `station`.
+pub mod Serving

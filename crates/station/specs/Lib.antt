@@ -1,0 +1,2 @@
+-- What `station` is to do.
+pub mod Serving
