@@ -40,6 +40,7 @@ use Rattle.message.specs.declared.value.Message.{Message}
 use Rattle.message.specs.Head.{headFits, carried}
 use Rattle.message.specs.Message.{messageFits}
 use Rattle.message.specs.Readings.{readingsFit}
+use Rattle.message.proofs.Plain.{none-fit}
 use Rattle.plan.specs.declared.brief.Phase.{Phase}
 use Rattle.plan.specs.declared.brief.Phase.the-variants.{Idle, Collecting, Pending, Voting}
 use Rattle.plan.specs.declared.planned.Effect.the-variants.{Issue}
@@ -58,7 +59,7 @@ use Rattle.controller_laws.specs.Ways.{Busy, Votes, Leads, Goes}
 use Rattle.controller_laws.specs.Ways.Votes.{another's, ours}
 use Rattle.controller_laws.specs.Ways.Leads.{refused, unchanged, begins, adds, replies, merges, updates, adopts-idle, adopts-before, adopts-past, asks, adverts, asks-and-adverts, collected, lapses, counts, open-still, behind, lacking, issues, restarts}
 use Rattle.controller_laws.specs.Ways.Goes.{out, led}
-use Rattle.controller_laws.proofs.Held.{none-fit, more-fit, merged-fit}
+use Rattle.controller_laws.proofs.Held.{more-fit, merged-fit}
 use Rattle.controller_laws.proofs.Masks.{run-bit-low, run-bit-below, or-above, or-below}
 use Rattle.controller_laws.proofs.Valid.{five, sized, first-high, legal-facts, legal-made, seats-length, seated-fit, unseated-fit, unseated, Own, phase-legal, phase-own, phase-made, Valid, valid-facts, valid-made}
 use Rattle.controller_laws.proofs.Ways.{goes}

@@ -1,4 +1,4 @@
--- Readings beside their mask stay in range: none, one, one more, two sets put together, and those asked for. Assumes nothing.
+-- Readings beside their mask stay in range: one, one more, two sets put together, and those asked for. Assumes nothing.
 use Prim.Native.Nat.{ℕ, _≤_, _<_}
 use native.Mathlib.Omega.{arith}
 use native.Mathlib.Decide.{ℕ-discrete}
@@ -13,7 +13,6 @@ use lib.Seq.{getD-set-same, getD-set-other}
 use borrow.Author.Tests.{le-leb}
 use Rattle.units.specs.Limits.{rawTop}
 use Rattle.units.specs.Mask.{inMask}
-use Rattle.units.proofs.Masks.{no-run}
 use Rattle.filter.proofs.Tab.{length-tab, getD-tab}
 use Rattle.message.specs.Readings.{readingPlace, readingAt, readingsFit}
 use Rattle.message.proofs.Ranges.{readings-length, readings-place, readings-made}
@@ -23,10 +22,6 @@ use Rattle.controller_laws.proofs.Masks.{in-and, in-or, in-run, not-in-
 -- a place is in range by what it holds and by whether it is in the mask
 placed : {t u : Bool} {x y : ℕ} → t ≡ u → x ≡ y → readingPlace u y ≡ true → readingPlace t x ≡ true
 placed p q h = ap₂ readingPlace p q ∙ h
-
--- ---- none
-pub none-fit : readingsFit 0 (replicate 16 0) ≡ true
-none-fit = readings-made 0 (replicate 16 0) refl (λ i k. placed (no-run i) (getD-replicate 16 i 0 0 k) refl)
 
 -- ---- one more; of none, that is one
 module _ (mask : ℕ) (readings : List ℕ) (fit : readingsFit mask readings ≡ true) (run raw : ℕ) (r : run < 16) (h : raw ≤ rawTop) where

@@ -1,36 +1,32 @@
 -- EVERY MESSAGE SENT IS IN RANGE, so that it can be written; and nothing is sent but what document 01 names. Assumes nothing.
 use Prim.Native.Nat.{ℕ, _-_}
 use native.Mathlib.Omega.{arith}
-use mathlib.Core.Path.{_≡_, refl, ap, subst, _∙_}
+use mathlib.Core.Path.{_≡_, refl, subst, _∙_}
 use mathlib.Core.Bool.{Bool, true, _&&_}
 use mathlib.Core.Logic.{_⊎_, ⊎-elim}
 use lib.Bits.{bitAnd, and-le-r}
-use lib.Ieee.{nan}
-use lib.ListN.{replicate, getD-replicate}
 use borrow.Author.Tests.{lt-ltb, le-leb}
 use Rattle.units.specs.declared.refusal.Verdict.the-variants.{Taken}
 use Rattle.units.specs.declared.settings.Group.{Group}
 use Rattle.units.specs.declared.settings.Numbers.{Numbers}
 use Rattle.units.specs.Labels.{roundFits}
-use Rattle.units.specs.Limits.{runsTop, labelTop}
+use Rattle.units.specs.Limits.{labelTop}
 use Rattle.units.specs.Mask.{maskEnd}
 use Rattle.units.specs.Settings.{groupFits, numbersFit}
 use Rattle.units.proofs.Masks.{some-mask}
-use Rattle.units.proofs.Every.{and-both}
-use Rattle.floats.specs.Bits.{nought}
-use Rattle.floats.specs.Ranges.{blank, noEstimate, stateFits, targetsFit}
-use Rattle.floats.proofs.Places.{state-made, targets-made}
+use Rattle.units.proofs.Every.{and-both, no-way}
+use Rattle.floats.specs.Ranges.{stateFits, targetsFit}
 use Rattle.vote.specs.declared.digest.Digest.{Digest}
 use Rattle.vote.specs.declared.judge.Decision.the-variants.{Decided}
 use Rattle.filter.specs.Compute.{newTotal, setPoints, computed}
 use Rattle.filter.proofs.Laws.{given-range}
-use Rattle.message.specs.declared.head.Carried.{Carried}
 use Rattle.message.specs.declared.head.Head.{Head}
-use Rattle.message.specs.declared.head.Head.the-variants.{Query, Reply, Advert, Update, Vote, Setpoints, Floor}
+use Rattle.message.specs.declared.head.Head.the-variants.{Reading, Query, Reply, Advert, Update, Vote, Setpoints, Due, CollectingEnds, VotingEnds, Floor, Start, Refused}
 use Rattle.message.specs.declared.value.Message.{Message}
-use Rattle.message.specs.Head.{headFits, carry, carried}
+use Rattle.message.specs.Head.{headFits, carry, carried, isPlain}
 use Rattle.message.specs.Message.{plain, messageFits}
 use Rattle.message.specs.Readings.{readingsFit}
+use Rattle.message.proofs.Plain.{none-fit, unused-estimates, unused-targets, plain-fit}
 use Rattle.plan.specs.declared.brief.Phase.the-variants.{Idle}
 use Rattle.plan.specs.declared.planned.Effect.the-variants.{Issue}
 use Rattle.plan.specs.declared.planned.Plan.{Plan}
@@ -54,28 +50,35 @@ use Rattle.controller_laws.specs.Ways.Leads.{refused, unchanged, begins,
 use Rattle.controller_laws.specs.Ways.Goes.{out, led}
 use Rattle.controller_laws.proofs.Decided.{decided-legal}
 use Rattle.controller_laws.proofs.Fits.{own-legal, inputs}
-use Rattle.controller_laws.proofs.Held.{none-fit, selected-fit}
+use Rattle.controller_laws.proofs.Held.{selected-fit}
 use Rattle.controller_laws.proofs.Valid.{group-fits, legal-facts, Valid}
 use Rattle.controller_laws.proofs.Ways.{goes}
 
--- ---- arrays that a message does not use
-unused-estimates : stateFits 0 (replicate runsTop blank) ≡ true
-unused-estimates = state-made 0 (replicate runsTop blank) refl (λ i l k. absurd (omega arith)) (λ i l k. getD-replicate 16 i blank noEstimate k)
+-- ---- a plain kind is sent as its head alone
+pub sent-plain : (s : Numbers) (c : Controller) (head : Head) → isPlain head ≡ true → sentMessage s c head head ≡ plain head
+unfolding isPlain sentMessage
+sent-plain s c (Reading label run raw) e = refl
+sent-plain s c (Query sender label mask) e = refl
+sent-plain s c (Reply sender label mask) e = no-way e
+sent-plain s c (Advert sender state) e = refl
+sent-plain s c (Update sender state) e = no-way e
+sent-plain s c (Vote sender label digest) e = refl
+sent-plain s c (Setpoints sender label digest) e = no-way e
+sent-plain s c (Due label) e = refl
+sent-plain s c (CollectingEnds label) e = refl
+sent-plain s c (VotingEnds label) e = refl
+sent-plain s c (Floor label) e = refl
+sent-plain s c (Start own label) e = refl
+sent-plain s c (Refused number) e = refl
 
-unused-targets : targetsFit 0 (replicate runsTop nought) ≡ true
-unused-targets = targets-made 0 (replicate runsTop nought) refl (λ i l k. absurd (omega arith)) (λ i l k. getD-replicate 16 i nought nan k)
-
+-- ---- a message in range
 message-made : (s : Group) (a : Message) → groupFits s ≡ true → headFits s (a .head) ≡ true → readingsFit (carried s (a .head) .readings) (a .readings) ≡ true
     → stateFits (carried s (a .head) .estimates) (a .estimates) ≡ true → targetsFit (carried s (a .head) .targets) (a .targets) ≡ true → messageFits s a ≡ true
 unfolding messageFits
 message-made s a g h r e t = and-both (and-both (and-both (and-both g h) r) e) t
 
 plain-fits : (s : Group) (head : Head) → groupFits s ≡ true → headFits s head ≡ true → carried s head ≡ carry 0 0 0 → messageFits s (plain head) ≡ true
-unfolding plain
-plain-fits s head g h e =
-    message-made s (plain head) g h (ap (λ (k : Carried). readingsFit (k .readings) (replicate runsTop 0)) e ∙ none-fit)
-    (ap (λ (k : Carried). stateFits (k .estimates) (replicate runsTop blank)) e ∙ unused-estimates)
-    (ap (λ (k : Carried). targetsFit (k .targets) (replicate runsTop nought)) e ∙ unused-targets)
+plain-fits s head g h e = plain-fit s head e ∙ and-both g h
 
 -- ---- each kind that is sent
 module _ (s : Numbers) (c : Controller) (fit : numbersFit s ≡ true) (v : Valid s c) where

@@ -56,13 +56,6 @@ put-done l d at r s h p q = (p ∙ sym (end-room l at s h), q ∙ sym (put-room 
 pub put-nothing : (l : List ℕ) (at : ℕ) (s : List ℕ) → s ≡ [] → (at ≡ putEnd l at s) × (l ≡ put l at s)
 put-nothing l at s e = rw e (sym (end-empty l at), sym (put-empty l at))
 
--- `put_byte`
-pub byte-put : (l : List ℕ) (at b : ℕ) → at < length l → (at + 1 ≡ putEnd l at (b ∷ [])) × (set l at b ≡ put l at (b ∷ []))
-byte-put l at b h = put-done l (set l at b) at (at + 1) (b ∷ []) (omega arith) refl refl
-
-pub byte-none : (l : List ℕ) (at b : ℕ) → length l ≤ at → (at ≡ putEnd l at (b ∷ [])) × (l ≡ put l at (b ∷ []))
-byte-none l at b h = (sym (end-none l at (b ∷ []) (omega arith)), sym (put-none l at (b ∷ []) (omega arith)))
-
 -- `put_part`
 pub part-again : (o l s : List ℕ) (at i : ℕ) → i < length s → o ≡ sets l at (take i s) → set o (at + i) (getD s i 0) ≡ sets l at (take (i + 1) s)
 part-again o l s at i h e =

@@ -19,7 +19,6 @@ pub use factor::put_factor;
 pub use factor::read_factor;
 pub use field::Field;
 pub use line::scan;
-pub use put::put_byte;
 pub use put::put_part;
 pub use quick::read_decimal_here;
 pub use quick::read_here;

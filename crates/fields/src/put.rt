@@ -1,6 +1,5 @@
 // Putting bytes into a lent buffer: whole where there is room, and nothing at all where there is none.
 ghost use mathlib.Core.Path.{_≡_};
-ghost use mathlib.Core.List.{[], _∷_};
 ghost use Prim.Native.Nat.{_+_};
 ghost use lib.Dec.{leb};
 ghost use Rattle.fields.specs.Put.{put, putEnd};
@@ -13,17 +12,6 @@ pub fn has_room(len: usize, at: usize, k: usize) -> bool
         return false;
     }
     k <= len - at
-}
-
-// Puts one byte; the answer is the place after it.
-pub fn put_byte(buf: &mut [u8], at: usize, b: u8) -> usize
-    ensures { λ r. ⌜ (r ≡ putEnd (now (buf .entry)) at (b ∷ [])) × (now (buf .exit) ≡ put (now (buf .entry)) at (b ∷ [])) ⌝ }
-{
-    if at < buf.len() {
-        buf[at] = b;
-        return at + 1;
-    }
-    at
 }
 
 // Puts all bytes of a slice; the answer is the place after them.

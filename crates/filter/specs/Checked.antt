@@ -12,7 +12,7 @@ use Rattle.units.specs.declared.refusal.Refusal.the-variants.{Range}
 use Rattle.units.specs.declared.refusal.Verdict.the-variants.{Taken, Refused}
 use Rattle.units.specs.Labels.{before}
 use Rattle.units.specs.Limits.{rawTop, runsTop}
-use Rattle.units.specs.Mask.{maskEnd}
+use Rattle.units.specs.Mask.{maskFits}
 use Rattle.units.specs.Every.{every}
 use Rattle.units.specs.Settings.{numbersFit}
 use Rattle.floats.specs.Bits.{nought}
@@ -31,16 +31,12 @@ readingAt m readings i = readingPlace (ltb i m) (getD readings i 0)
 unfoldable pub readingsFit : ℕ → List ℕ → Bool
 readingsFit m readings = every (readingAt m readings) runsTop
 
--- "it isn't 0000 and has no bit at m or above"
-abbrev pub chosenFits : ℕ → ℕ → Bool
-chosenFits m chosen = ltb 0 chosen && ltb chosen (maskEnd m)
-
 -- a base below the label, which is then not 0
 unfoldable pub inputsFit : RoundLabel → StateLabel → List Estimate → Numbers → ℕ → List ℕ → Bool
 unfolding readingsFit
 inputsFit label base state s chosen readings =
     (numbersFit s && stateFits (s .group .m) state)
-    && (before base label && chosenFits (s .group .m) chosen && readingsFit (s .group .m) readings)
+    && (before base label && maskFits (s .group .m) chosen && readingsFit (s .group .m) readings)
 
 -- in range or not: taken and computed, or 6 with the state as it was and every target +0
 unfoldable pub answer : Bool → RoundLabel → StateLabel → List Estimate → Numbers → ℕ → List ℕ → Checked

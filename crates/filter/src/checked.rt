@@ -1,6 +1,6 @@
 // Computing on values that may be out of range: those get 6, and change nothing.
 ghost use mathlib.Core.Path.{_≡_};
-ghost use Rattle.filter.specs.Checked.{checked, chosenFits, inputsFit, readingPlace, readingsFit};
+ghost use Rattle.filter.specs.Checked.{checked, inputsFit, readingPlace, readingsFit};
 use crate::compute::Computed;
 use crate::compute::compute;
 use floats::ranges::state_in_range;
@@ -12,7 +12,7 @@ use units::StateLabel;
 use units::Verdict;
 use units::limits::RAW_TOP;
 use units::limits::RUNS;
-use units::mask::mask_end;
+use units::mask::mask_in_range;
 
 // What computing says of itself, and what it gives.
 pub struct Checked {
@@ -39,13 +39,6 @@ pub fn readings_in_range(m: usize, readings: [u32; 16]) -> bool
     fit
 }
 
-// Whether a mask has a bit, and none at m or above.
-pub fn chosen_in_range(m: usize, chosen: u32) -> bool
-    ensures { λ r. ⌜ r ≡ chosenFits m chosen ⌝ }
-{
-    (0 < chosen) & (chosen < mask_end(m))
-}
-
 fn inputs_in_range(
     label: RoundLabel,
     base: StateLabel,
@@ -58,7 +51,7 @@ fn inputs_in_range(
 {
     let m = numbers.group.m;
     let station = numbers.in_range() & state_in_range(state, m);
-    let round = base.before(label) & chosen_in_range(m, chosen) & readings_in_range(m, readings);
+    let round = base.before(label) & mask_in_range(m, chosen) & readings_in_range(m, readings);
     station & round
 }
 

@@ -45,6 +45,7 @@ use Rattle.controller_laws.proofs.Fits.{told}
 use Rattle.session.specs.declared.stage.Core.{Core}
 use Rattle.session.specs.declared.stage.Stage.{Stage}
 use Rattle.session.specs.declared.stage.Stage.the-variants.{Settling as AtSettings, Waiting, Running, Ended}
+use Rattle.session.specs.Booting.{led}
 use Rattle.session.specs.Demand.{saidBy, stepBy}
 use Rattle.session.specs.Reach.{FitsAt, CoreFits}
 use Rattle.session.specs.Station.{linesOf}
@@ -58,7 +59,7 @@ use Rattle.group.specs.World.{Mark, put, confirms, rising}
 use Rattle.group.specs.Premises.{Meters}
 use Rattle.group.specs.Wire.{Wire, silent, spelling, spelledBy, takes, afterwards, OnwardLines, Demand3Lines}
 use Rattle.group.specs.Wire as Lines
-use Rattle.group.specs.Stations.{Stations, still, Doing, hand, store, crash, boot, seat, puts, led, confirming, turned, later, controllerAt, controllerIn, keptIf, spoken, wireIn, Asked, Booted, OnStation, OnwardStations, here, next, Demand3Stations}
+use Rattle.group.specs.Stations.{Stations, still, Doing, hand, store, crash, boot, seat, puts, confirming, turned, later, controllerAt, controllerIn, keptIf, spoken, wireIn, Asked, Booted, OnStation, OnwardStations, here, next, Demand3Stations}
 use Rattle.group.proofs.Wire.{demand3-lines}
 
 -- ---- X is never read

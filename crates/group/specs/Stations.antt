@@ -18,6 +18,7 @@ use Rattle.controller.specs.declared.state.Controller.{Controller}
 use Rattle.session.specs.declared.stage.Core.{Core}
 use Rattle.session.specs.declared.stage.Stage.{Stage}
 use Rattle.session.specs.declared.stage.Stage.the-variants.{Settling as AtSettings, Waiting, Running, Ended}
+use Rattle.session.specs.Booting.{led}
 use Rattle.session.specs.Demand.{saidBy}
 use Rattle.session.specs.Station.{linesOf}
 use Rattle.session.specs.Turn.{numbersIn, groupIn, coreStart, turn}
@@ -50,11 +51,6 @@ seat up i c j = pick (eqb j i) c (up j)
 unfoldable pub puts : List (List ℕ) → List (List ℕ) → List (List ℕ)
 puts [] before = before
 puts (l ∷ ls) before = puts ls (l ∷ before)
-
--- where lines lead a program
-unfoldable pub led : Core → List (List ℕ) → Core
-led c [] = c
-led c (l ∷ ls) = led (turn c l .next) ls
 
 -- F that a running program reads confirms its label
 abbrev pub confirming : ℕ → Head → Verdict → Stage → List Mark

@@ -7,6 +7,7 @@ mod Stages
 mod Openings
 mod Firsts
 mod Adding
+pub mod Plain
 mod Putting
 mod Sending
 mod Settlings

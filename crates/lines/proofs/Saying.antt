@@ -37,6 +37,7 @@ use Rattle.lines.specs.Lists.{joined}
 use Rattle.lines.specs.Table.{letterOf, kindOf, quantityAt, limitOf, countOf, runsOf}
 use Rattle.lines.specs.Values.{word, headOf, messageOf, kindIs, headValues, valuesOf, rawOf, floatsOf, targetOf}
 use Rattle.lines.proofs.Adding.{no-raws}
+use Rattle.lines.proofs.Plain.{head-alone}
 use Rattle.lines.proofs.Arrays.{word-is, rank, reading-range, readings-back, estimates-back, targets-back, raws-length, raws-at, floats-length, floats-at, targets-count, target-at}
 use Rattle.lines.proofs.Making.{message-made}
 use Rattle.lines.proofs.Meaning.{reply-later, update-x, update-variance, setpoints-later}
@@ -87,8 +88,7 @@ module _ (k : Kind) (s : Group) (a : Message) (F : Fits s a) (h : Head) (e : a .
 module _ (k : Kind) (s : Group) (a : Message) (F : Fits s a) (h : Head) (e : a .head ≡ h) (ce : carried s h ≡ carry 0 0 0) (vs : List ℕ) (ve : headValues h ≡ vs)
     (he : headOf k (getD vs 0 0) (getD vs 1 0) (getD vs 2 0) (getD vs 3 0) ≡ h) (n : length vs ≡ countOf k s (getD vs 2 0)) (r : eqb (letterOf k) 75 ≡ false) (f : FitsAt k s vs) where
   plain-values : valuesOf s a ≡ vs
-  unfolding valuesOf joined
-  plain-values = rw (e, ce, no-raws (a .readings) 16, append-nil (headValues h)) ve
+  plain-values = head-alone s a (rw e ce) ∙ rw e ve
 
   said-plain : Said k s a
   said-plain = record {

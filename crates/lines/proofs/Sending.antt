@@ -1,12 +1,12 @@
--- What `numbers_of`, `write` and `write_refusal` need. Assumes nothing.
+-- What `numbers_of`, `write`, `write_plain` and `write_refusal` need. Assumes nothing.
 use Prim.Native.Nat.{ℕ, _+_, _*_, _≤_}
 use mathlib.Core.Path.{_≡_, refl, sym, ap, _∙_}
 use mathlib.Core.List.{List, [], _∷_, _++_, append-assoc}
-use mathlib.Core.Bool.{Bool, true, false, not, _&&_}
+use mathlib.Core.Bool.{Bool, true, false, _&&_}
 use native.Mathlib.Omega.{arith}
 use lib.Dec.{leb}
 use lib.ListN.{length, take}
-use borrow.Author.Tests.{leb-true, not-true, not-false}
+use borrow.Author.Tests.{leb-true}
 use Rattle.units.specs.declared.refusal.Refusal.{Refusal}
 use Rattle.units.specs.declared.refusal.Refusal.the-variants.{Range}
 use Rattle.units.specs.declared.settings.Group.{Group}
@@ -16,6 +16,7 @@ use Rattle.units.specs.Settings.{groupFits}
 use Rattle.units.proofs.Every.{and-left, and-right}
 use Rattle.floats.specs.Ranges.{stateFits, targetsFit}
 use Rattle.message.specs.declared.head.Carried.{Carried}
+use Rattle.message.specs.declared.head.Head.{Head}
 use Rattle.message.specs.declared.value.Message.{Message}
 use Rattle.message.specs.Head.{carried, headFits}
 use Rattle.message.specs.Message.{messageFits}
@@ -111,20 +112,24 @@ module _ (s : Group) (a : Message) (fit : messageFits s a ≡ true) (c : Carried
             ∙ append-assoc (headValues (a .head) ++ R) E T ∙ append-assoc (headValues (a .head)) R (E ++ T) in
             (rw ce at t, let l = all-few in let e = raws-count in let f = xe .0 in let g = ye .0 in omega arith, ye .2)
 
--- `write`
-module _ (s : Group) (a : Message) (b : Bool) (be : b ≡ messageFits s a) (buf : List ℕ) where
-  pub write-range : not b ≡ true → (Refused Range ≡ writeAnswer (messageFits s a) (spellLine s a) buf) × (buf ≡ writeBuffer (messageFits s a) (spellLine s a) buf)
+-- `write` and `write_plain`: what may be written is, by a test
+module _ (fit b : Bool) (be : b ≡ fit) (text buf : List ℕ) where
+  pub write-range : b ≡ false → (Refused Range ≡ writeAnswer fit text buf) × (buf ≡ writeBuffer fit text buf)
   unfolding writeAnswer writeBuffer pick
-  write-range t = rw (← be, not-true b t) (refl, refl)
+  write-range t = rw (← be, t) (refl, refl)
 
-  pub write-fits : not b ≡ false → messageFits s a ≡ true
-  write-fits t = sym be ∙ not-false b t
+  pub write-put : b ≡ true → (line : List ℕ) (r : Written) (d : List ℕ) → text ≡ line → (r ≡ answerOf line buf) × (d ≡ bufferOf line buf)
+      → (r ≡ writeAnswer fit text buf) × (d ≡ writeBuffer fit text buf)
+  unfolding writeAnswer writeBuffer pick
+  write-put t line r d e h = rw (← be, t, e) h
 
-  pub write-put : not b ≡ false → (k : Kind) (vs : List ℕ) (r : Written) (d : List ℕ) → k ≡ kindIs (a .head) → vs ≡ valuesOf s a
-      → (r ≡ answerOf (lineOf k vs) buf) × (d ≡ bufferOf (lineOf k vs) buf)
-      → (r ≡ writeAnswer (messageFits s a) (spellLine s a) buf) × (d ≡ writeBuffer (messageFits s a) (spellLine s a) buf)
-  unfolding writeAnswer writeBuffer spellLine pick
-  write-put t k vs r d ke ve h = rw (← be, not-false b t, ← ke, ← ve) h
+pub spelled : (s : Group) (a : Message) (k : Kind) (vs : List ℕ) → k ≡ kindIs (a .head) → vs ≡ valuesOf s a → spellLine s a ≡ lineOf k vs
+unfolding spellLine
+spelled s a k vs ke ve = rw (ke, ve)
+
+-- `write_plain`
+pub plain-few : (s : Group) (head : Head) (g : Bool) (n : ℕ) → g ≡ groupFits s → g ≡ true → n ≡ length (headValues head) → n ≤ 34
+plain-few s head g n ge t e = let l = roomy s head [] (group-runs s (sym ge ∙ t) .1) .head in omega arith
 
 -- `write_refusal`
 pub refusal-put : (why : Refusal) (n : ℕ) (vs buf : List ℕ) (r : Written) (d : List ℕ) → n ≡ numberOf why → vs ≡ n ∷ []

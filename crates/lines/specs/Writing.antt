@@ -1,6 +1,6 @@
 -- THE WRITER: the one spelling of each line, and the lent buffer after it.
 use Prim.Native.Nat.{ℕ}
-use mathlib.Core.Bool.{Bool}
+use mathlib.Core.Bool.{Bool, _&&_}
 use mathlib.Core.List.{List, [], _∷_, _++_}
 use lib.Dec.{ltb}
 use lib.ListN.{length, getD, drop}
@@ -9,7 +9,10 @@ use Rattle.units.specs.declared.refusal.Refusal.the-variants.{Range, Room}
 use Rattle.units.specs.declared.settings.Group.{Group}
 use Rattle.units.specs.Pick.{pick}
 use Rattle.units.specs.Refusal.{numberOf, valuesOf}
+use Rattle.message.specs.declared.head.Head.{Head}
 use Rattle.message.specs.declared.value.Message.{Message}
+use Rattle.message.specs.Head.{isPlain}
+use Rattle.message.specs.Message.{messageFits, plain}
 use Rattle.fields.specs.Put.{written}
 use Rattle.fields.specs.Text.{lineFeed, tabbed}
 use Rattle.lines.specs.declared.kind.Kind.{Kind}
@@ -52,6 +55,10 @@ writeAnswer fit bytes buf = pick fit (answerOf bytes buf) (Refused Range)
 
 unfoldable pub writeBuffer : Bool → List ℕ → List ℕ → List ℕ
 writeBuffer fit bytes buf = pick fit (bufferOf bytes buf) buf
+
+-- a message that carries no array can be written from its head alone
+unfoldable pub plainFits : Group → Head → Bool
+plainFits s head = isPlain head && messageFits s (plain head)
 
 -- the number of what the writer answers, 0 where it is done, and the values that go with it
 abbrev pub writtenNumber : Written → ℕ

@@ -94,7 +94,7 @@ pub(crate) fn four(n: usize, a: u64, b: u64, c: u64, d: u64) -> Numbers
 }
 
 // The numbers of a head.
-fn head_numbers(head: Head) -> Numbers
+pub(crate) fn head_numbers(head: Head) -> Numbers
     ensures { λ r. ⌜ (r .n ≡ length (headValues head)) × (take (r .n) (r .v) ≡ headValues head) × (length (r .v) ≡ 34) ⌝ }
 {
     match head {

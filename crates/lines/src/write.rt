@@ -5,9 +5,10 @@ ghost use lib.Dec.{leb};
 ghost use lib.ListN.{length, take};
 ghost use lib.Seq.{sets};
 ghost use Rattle.fields.specs.Text.{tabbed};
-ghost use Rattle.message.specs.Message.{messageFits};
-ghost use Rattle.lines.specs.Writing.{answerOf, bufferOf, lineOf, refusalLine, spellLine, textsTo, writeAnswer, writeBuffer, writtenNumber};
+ghost use Rattle.message.specs.Message.{messageFits, plain};
+ghost use Rattle.lines.specs.Writing.{answerOf, bufferOf, lineOf, plainFits, refusalLine, spellLine, textsTo, writeAnswer, writeBuffer, writtenNumber};
 use crate::kind::Kind;
+use crate::numbers::head_numbers;
 use crate::numbers::kind_is;
 use crate::numbers::numbers_of;
 use crate::table::quantity_at;
@@ -15,6 +16,7 @@ use fields::put_at;
 use fields::text::LINE_FEED;
 use fields::text::TAB;
 use fields::width;
+use message::Head;
 use message::Message;
 use units::Group;
 use units::Refusal;
@@ -104,6 +106,19 @@ pub fn write(message: Message, group: Group, buf: &mut [u8]) -> Written
     let v = numbers.v;
     let n = numbers.n;
     put_line(buf, kind_is(head), &v, n)
+}
+
+// Writes the line of a message that carries no array, from its head alone: 6 also where it is of a kind that carries one.
+pub fn write_plain(head: Head, group: Group, buf: &mut [u8]) -> Written
+    ensures { λ r. ⌜ (r ≡ writeAnswer (plainFits group head) (spellLine group (plain head)) (now (buf .entry))) × (now (buf .exit) ≡ writeBuffer (plainFits group head) (spellLine group (plain head)) (now (buf .entry))) ⌝ }
+{
+    if head.is_plain() & group.in_range() & head.in_range(group) {
+        let numbers = head_numbers(head);
+        let v = numbers.v;
+        let n = numbers.n;
+        return put_line(buf, kind_is(head), &v, n);
+    }
+    Written::Refused(Refusal::Range)
 }
 
 // Writes the line X of a refusal, which needs no group.

@@ -1,3 +1,4 @@
 -- The laws of `message` that belong to no one function.
 pub mod Ranges
+pub mod Plain
 mod Lengths

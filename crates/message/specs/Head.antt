@@ -1,6 +1,6 @@
 -- What is in range of a message's head, by document 01's table of quantities and its list of lines.
 use Prim.Native.Nat.{ℕ}
-use mathlib.Core.Bool.{Bool, _&&_}
+use mathlib.Core.Bool.{Bool, true, false, _&&_}
 use lib.Dec.{leb, ltb}
 use Rattle.units.specs.declared.settings.Group.{Group}
 use Rattle.units.specs.Labels.{roundFits, stateLabelFits, floorFits}
@@ -46,3 +46,19 @@ carried s (VotingEnds label) = carry 0 0 0
 carried s (Floor label) = carry 0 0 0
 carried s (Start own floor) = carry 0 0 0
 carried s (Refused number) = carry 0 0 0
+
+-- any kind but those three
+unfoldable pub isPlain : Head → Bool
+isPlain (Reading label run raw) = true
+isPlain (Query sender label mask) = true
+isPlain (Reply sender label mask) = false
+isPlain (Advert sender state) = true
+isPlain (Update sender state) = false
+isPlain (Vote sender label digest) = true
+isPlain (Setpoints sender label digest) = false
+isPlain (Due label) = true
+isPlain (CollectingEnds label) = true
+isPlain (VotingEnds label) = true
+isPlain (Floor label) = true
+isPlain (Start own floor) = true
+isPlain (Refused number) = true

@@ -1,6 +1,6 @@
 // What a message is, but for the arrays that some kinds carry.
 ghost use mathlib.Core.Path.{_≡_};
-ghost use Rattle.message.specs.Head.{carried, headFits};
+ghost use Rattle.message.specs.Head.{carried, headFits, isPlain};
 use units::Group;
 use units::RoundLabel;
 use units::StateLabel;
@@ -190,6 +190,53 @@ impl Head {
             Head::Floor { label: _ } => carry(0, 0, 0),
             Head::Start { own: _, floor: _ } => carry(0, 0, 0),
             Head::Refused { number: _ } => carry(0, 0, 0),
+        }
+    }
+
+    // Whether its message carries no array: it is of any kind but R, U and S.
+    pub fn is_plain(self) -> bool
+        ensures { λ r. ⌜ r ≡ isPlain self ⌝ }
+    {
+        match self {
+            Head::Reading {
+                label: _,
+                run: _,
+                raw: _,
+            } => true,
+            Head::Query {
+                sender: _,
+                label: _,
+                mask: _,
+            } => true,
+            Head::Reply {
+                sender: _,
+                label: _,
+                mask: _,
+            } => false,
+            Head::Advert {
+                sender: _,
+                state: _,
+            } => true,
+            Head::Update {
+                sender: _,
+                state: _,
+            } => false,
+            Head::Vote {
+                sender: _,
+                label: _,
+                digest: _,
+            } => true,
+            Head::Setpoints {
+                sender: _,
+                label: _,
+                digest: _,
+            } => false,
+            Head::Due { label: _ } => true,
+            Head::CollectingEnds { label: _ } => true,
+            Head::VotingEnds { label: _ } => true,
+            Head::Floor { label: _ } => true,
+            Head::Start { own: _, floor: _ } => true,
+            Head::Refused { number: _ } => true,
         }
     }
 }

@@ -7,7 +7,7 @@ use mathlib.Core.Path.{_≡_, refl, sym, ap, _∙_}
 use mathlib.Core.Bool.{Bool, true, false, not, _||_, true≢false}
 use mathlib.Core.List.{List, [], _++_, append-nil}
 use lib.Dec.{eqb}
-use lib.ListN.{length, take, drop, length-append, length-drop}
+use lib.ListN.{length, take, drop, length-drop}
 use lib.Seq.{take-all, take-at, drop-at, drop-drop, drop-length}
 use borrow.Author.Tests.{eqb-true, eqb-false}
 use borrow.Rule.Slice.PartMut.{midOf, postOf, putMid}
@@ -31,7 +31,6 @@ use Rattle.controller.specs.declared.step.Answer.{Answer}
 use Rattle.controller.specs.Effects.{added, applied}
 use Rattle.controller.specs.Step.{planned, readingChange}
 use Rattle.controller_laws.proofs.Adding.{adds-one, changes-none}
-use Rattle.session.specs.declared.run.Ran.{Ran}
 use Rattle.session.specs.Feeding.{advanced, doneLength, feedAt, putText}
 use Rattle.session.specs.Serving.{AddedBy, answerPut, goesOn, isTaken, lineAnswer, ran, runOf}
 use Rattle.session.specs.Turn.{verdictText}
@@ -53,11 +52,11 @@ reading-added k head label run raw e c s a r w q = rw e (adds-one r w s k a labe
 module _ (s : Numbers) (k : Controller) (a : Message) where
   -- one reading more, and nothing to say
   module _ (run raw : ℕ) (p : planned s k a (a .head) ≡ does (Add run raw)) where
-    pub added-next : advanced s k a .next ≡ added k run raw
+    added-next : advanced s k a .next ≡ added k run raw
     unfolding applied
     added-next = rw p
 
-    pub added-quiet : answerPut s (advanced s k a) ≡ []
+    added-quiet : answerPut s (advanced s k a) ≡ []
     unfolding putText verdictText
     added-quiet = rw p
 
@@ -69,7 +68,7 @@ module _ (s : Numbers) (k : Controller) (a : Message) where
     pub applied-next : {n : Controller} → n ≡ applied s a k (p .effect) → advanced s k a .next ≡ n
     applied-next h = rw (← e) (sym h)
 
-    pub plan-text : {n : Controller} → advanced s k a .next ≡ n → answerPut s (advanced s k a) ≡ putText s n (p .second) (p .verdict) (p .first)
+    plan-text : {n : Controller} → advanced s k a .next ≡ n → answerPut s (advanced s k a) ≡ putText s n (p .second) (p .verdict) (p .first)
     plan-text h = ap (λ (c : Controller). putText s c (planned s k a (a .head) .second) (planned s k a (a .head) .verdict) (planned s k a (a .head) .first)) h ∙ rw e
 
 -- a sum that is no more than a length fits

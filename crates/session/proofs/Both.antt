@@ -1,13 +1,11 @@
 -- Two texts put into a lent buffer, the second first: both where there is room for both, else nothing. Assumes nothing.
 use Prim.Native.Nat.{ℕ, _+_, _-_, _≤_, _<_}
 use mathlib.Core.Path.{_≡_, refl, sym, ap, _∙_}
-use mathlib.Core.List.{List, [], _∷_, _++_, append-nil, append-assoc}
-use mathlib.Core.Bool.{Bool, true, false}
+use mathlib.Core.List.{List, [], _++_, append-nil, append-assoc}
 use native.Mathlib.Omega.{arith}
-use lib.ListN.{length, take, drop, length-append, length-drop, length-take}
+use lib.ListN.{length, take, drop, length-append, length-drop}
 use lib.Seq.{sets-eq, take-all, drop-drop, drop-at, take-at, length-take-le, drop-length}
-use lib.Dec.{ltb}
-use borrow.Author.Tests.{lt-ltb, le-ltb, le-leb, ltb-true, ltb-false}
+use borrow.Author.Tests.{lt-ltb, le-ltb}
 use borrow.Rule.Slice.PartMut.{midOf, postOf, putMid, put-same}
 use Rattle.units.specs.declared.refusal.Refusal.{Refusal}
 use Rattle.units.specs.declared.refusal.Refusal.the-variants.{Room}
@@ -17,7 +15,7 @@ use Rattle.fields.proofs.Cases.{by-lt, absurd-by}
 use Rattle.fields.proofs.Puts.{put-room}
 use Rattle.lines.specs.declared.write.Written.{Written}
 use Rattle.lines.specs.declared.write.Written.the-variants.{Done, Refused}
-use Rattle.lines.specs.Writing.{answerOf, bufferOf}
+use Rattle.lines.specs.Writing.{bufferOf}
 use Rattle.session.specs.Feeding.{doneLength}
 use Rattle.session.proofs.Writes.{Puts}
 
@@ -42,13 +40,13 @@ module _ (t before after : List ℕ) (r : Written) (p : Puts t before after r) w
   length-done n h e = e ∙ ap doneLength (room-is h .0)
 
   -- refused, so there was too little room
-  pub refused-is : (why : Refusal) → r ≡ Refused why → (length before < length t) × (Refused why ≡ Refused Room) × (after ≡ before)
+  refused-is : (why : Refusal) → r ≡ Refused why → (length before < length t) × (Refused why ≡ Refused Room) × (after ≡ before)
   refused-is why e = by-lt (length before) (length t) (λ h. let q = short-is h in (h, sym e ∙ q .0, q .1)) (λ h. not-done (sym (room-is h .0) ∙ e))
     where
       not-done : {A : Type 0} {n : ℕ} {w : Refusal} → Done n ≡ Refused w → A
       not-done k = absurd-by (cc)
 
-  pub done-is : (n : ℕ) → r ≡ Done n → (length t ≤ length before) × (n ≡ length t) × (after ≡ t ++ drop (length t) before)
+  done-is : (n : ℕ) → r ≡ Done n → (length t ≤ length before) × (n ≡ length t) × (after ≡ t ++ drop (length t) before)
   done-is n e = by-lt (length before) (length t) (λ h. not-refused (sym (short-is h .0) ∙ e)) (λ h. let q = room-is h in (h, ap doneLength (sym e ∙ q .0), q .1))
     where
       not-refused : {A : Type 0} {n : ℕ} {w : Refusal} → Refused w ≡ Done n → A

@@ -1,19 +1,25 @@
 -- DEMAND 2 AS ONE STATEMENT: each clause is a law that stands elsewhere, under the sentence that it answers. Assumes nothing.
 use Prim.Native.Nat.{ℕ, _+_, _≤_}
-use mathlib.Core.Path.{_≡_}
+use native.Mathlib.Omega.{arith}
+use mathlib.Core.Path.{_≡_, refl, ap, subst}
 use mathlib.Core.Bool.{true}
 use mathlib.Core.List.{List, _++_}
+use lib.Ieee.{Float}
 use lib.ListN.{length, take}
-use Rattle.units.specs.declared.refusal.Verdict.{Verdict}
+use Rattle.units.specs.declared.labels.RoundLabel.{RoundLabel}
 use Rattle.units.specs.declared.refusal.Verdict.the-variants.{Taken}
 use Rattle.units.specs.declared.settings.Group.{Group}
 use Rattle.units.specs.declared.settings.Numbers.{Numbers}
+use Rattle.units.specs.Labels.{issuedState}
 use Rattle.units.specs.Limits.{lineTop}
+use Rattle.vote.specs.declared.digest.Digest.{Digest}
 use Rattle.vote.specs.declared.votes.Votes.{Votes}
 use Rattle.vote.specs.Decision.{decision}
 use Rattle.vote.specs.Vote.{Answers}
 use Rattle.vote.proofs.Answer.{decision-exact}
+use Rattle.filter.specs.Compute.{newTotal, setPoints, computed}
 use Rattle.message.specs.declared.head.Head.{Head}
+use Rattle.message.specs.declared.head.Head.the-variants.{Setpoints}
 use Rattle.message.specs.declared.settings.Settings.{Settings}
 use Rattle.message.specs.declared.value.Message.{Message}
 use Rattle.message.specs.Message.{messageFits}
@@ -30,7 +36,10 @@ use Rattle.lines.proofs.Wire.{taken}
 use Rattle.controller.specs.declared.state.Controller.{Controller}
 use Rattle.controller.specs.Sent.{sentMessage}
 use Rattle.controller.specs.Step.{stepped}
+use Rattle.controller_laws.specs.Outcomes.{Settled, SentBy}
+use Rattle.controller_laws.specs.Outcomes.SentBy.{query, reply, advert, update, floor, vote, setpoints}
 use Rattle.controller_laws.specs.Sendings.{IsSent}
+use Rattle.controller_laws.proofs.Outcomes.{sent-by}
 use Rattle.session.specs.declared.feed.Session.{Session}
 use Rattle.session.specs.declared.stage.Core.{Core}
 use Rattle.session.specs.declared.stage.Stage.{Stage}
@@ -39,7 +48,7 @@ use Rattle.session.specs.Demand.{saidBy, stepBy}
 use Rattle.session.specs.Feeding.{finished, lastTurn, sessionStart}
 use Rattle.session.specs.Pieces.{Feeds}
 use Rattle.session.specs.Station.{station}
-use Rattle.session.specs.Turn.{Turn, groupIn, answered, turnBy, stepping, turn}
+use Rattle.session.specs.Turn.{groupIn, answered, turnBy, stepping, turn}
 use Rattle.session.proofs.Turns.{hears-taken}
 use Rattle.session.proofs.Sent.{sent-back}
 use Rattle.session.proofs.Whole.{whole}
@@ -51,6 +60,37 @@ turn-at c line stage e t = rw e (hears-taken (stepping c) c (saidBy c line) t)
 
 pub turn-steps : (c : Core) (line : List ℕ) → c .stage ≡ Running → readLine (groupIn c) line .verdict ≡ Taken → turn c line ≡ answered c (stepBy c line)
 turn-steps c line e t = turn-at c line (c .stage) e t
+
+-- what is issued for `chosen` by the controller c: the state after the step and the targets of its S are those of 'Computing', from both labels, the state, the settings,
+-- the chosen mask and the readings
+pub record Issued (s : Numbers) (c : Controller) (chosen : Digest) (n : Controller) (targets : List Float) : Type 0 where
+  pub label : n .state ≡ issuedState (c .label)
+  pub state : n .estimates ≡ computed (c .label) (c .state) (c .estimates) s (chosen .mask) (c .readings) .state
+  pub given : targets ≡ computed (c .label) (c .state) (c .estimates) s (chosen .mask) (c .readings) .targets
+
+-- every S that a step sends is issued so
+module _ (s : Numbers) (c : Controller) (a : Message) where
+  abbrev n : Controller
+  n = stepped s c a .next
+
+  settled-issue : {chosen : Digest} → Settled s c (a .head) chosen n → Issued s c chosen n (setPoints s (n .estimates))
+  unfolding computed newTotal setPoints
+  settled-issue t =
+      record { label = ap (λ (k : Controller). k .state) (t .next); state = ap (λ (k : Controller). k .estimates) (t .next); given = ap (λ (k : Controller). setPoints s (k .estimates)) (t .next) }
+
+  sent-issue : {head : Head} → SentBy s c (a .head) n head → (j : ℕ) (l : RoundLabel) (chosen : Digest) → head ≡ Setpoints j l chosen → Issued s c chosen n (sentMessage s n head head .targets)
+  unfolding sentMessage
+  sent-issue (setpoints {chosen} t) j l d q = let y : chosen ≡ d = cc in subst (λ (k : Digest). Issued s c k n (setPoints s (n .estimates))) y (settled-issue t)
+  sent-issue (query e) j l chosen q = let z : _≡_ {A = ℕ} 0 1 = cc in absurd (omega arith)
+  sent-issue (reply asked e) j l chosen q = let z : _≡_ {A = ℕ} 0 1 = cc in absurd (omega arith)
+  sent-issue (advert e) j l chosen q = let z : _≡_ {A = ℕ} 0 1 = cc in absurd (omega arith)
+  sent-issue (update e) j l chosen q = let z : _≡_ {A = ℕ} 0 1 = cc in absurd (omega arith)
+  sent-issue (floor e) j l chosen q = let z : _≡_ {A = ℕ} 0 1 = cc in absurd (omega arith)
+  sent-issue (vote e p) j l chosen q = let z : _≡_ {A = ℕ} 0 1 = cc in absurd (omega arith)
+
+  issue-computed : (sender : ℕ) (label : RoundLabel) (chosen : Digest) → IsSent (stepped s c a) (Setpoints sender label chosen)
+      → Issued s c chosen n (sentMessage s n (Setpoints sender label chosen) (Setpoints sender label chosen) .targets)
+  issue-computed sender label chosen e = sent-issue (sent-by s c a (Setpoints sender label chosen) e) sender label chosen refl
 
 pub record Demand2 : Type 0 where
   -- "Lines are read and written in one spelling, nothing lost": a message that is written is read back whole ..
@@ -64,8 +104,11 @@ pub record Demand2 : Type 0 where
   pub settings-read : (s : Settings) → settingsFit s ≡ true → settleAll (settingLines s) started ≡ wholeAt (record { line = 3 + s .numbers .group .m; settings = s })
   pub settings-spelling : (lines : List (List ℕ)) (end : Settling) → settleAll lines started ≡ wholeAt end → SettingsSpelt lines (end .settings)
   -- "Every step does what the Quarts report and document 01 define, bit for bit": a line that is read by a running controller is one step of `stepped`,
-  -- next state and answer, whose estimates and targets are filter's `computed` in IEEE 754 binary64 ..
+  -- next state and answer ..
   pub each-step : (c : Core) (line : List ℕ) → c .stage ≡ Running → readLine (groupIn c) line .verdict ≡ Taken → turn c line ≡ answered c (stepBy c line)
+  -- .. whenever an S goes out, the state after it and its targets are filter's `computed` in IEEE 754 binary64, of what the controller held ..
+  pub each-issue : (s : Numbers) (c : Controller) (a : Message) (sender : ℕ) (label : RoundLabel) (chosen : Digest) → IsSent (stepped s c a) (Setpoints sender label chosen)
+      → Issued s c chosen (stepped s c a .next) (sentMessage s (stepped s c a .next) (Setpoints sender label chosen) (Setpoints sender label chosen) .targets)
   -- .. from the first byte of an input to the last, however it is cut: the bytes written are those of `station`, which goes by such turns alone
   pub whole-input : {input out : List ℕ} {y : Session} → Feeds sessionStart input out y → (buf : List ℕ) → lineTop ≤ length buf
       → out ++ take (finished y (length buf) .wrote) (bufferOf (lastTurn y .text) buf) ≡ station input
@@ -81,6 +124,7 @@ demand2 =
       settings-read = settings-back;
       settings-spelling = settings-only;
       each-step = turn-steps;
+      each-issue = issue-computed;
       whole-input = whole;
       decided-exactly = decision-exact;
     }

@@ -1,20 +1,17 @@
 -- The cases of a call and of the end of the input, as the code takes them. Assumes nothing.
-use Prim.Native.Nat.{ℕ, _+_, _≤_, _<_}
-use mathlib.Core.Path.{_≡_, refl, sym, ap, subst, _∙_}
-use mathlib.Core.List.{List, []}
+use Prim.Native.Nat.{ℕ, _+_, _≤_}
+use mathlib.Core.Path.{_≡_, sym, ap, subst, _∙_}
+use mathlib.Core.List.{List}
 use native.Mathlib.Omega.{arith}
 use lib.ListN.{length, take}
-use lib.Dec.{ltb}
 use borrow.Author.Tests.{lt-ltb, le-ltb}
-use Rattle.units.specs.declared.refusal.Refusal.the-variants.{Room}
 use Rattle.units.specs.declared.refusal.Verdict.{Verdict}
 use Rattle.units.specs.Pick.{pick}
 use Rattle.fields.proofs.Cases.{by-lt}
 use Rattle.fields.proofs.Texts.{until-short}
 use Rattle.lines.specs.declared.read.Line.{Line}
 use Rattle.lines.specs.declared.write.Written.{Written}
-use Rattle.lines.specs.declared.write.Written.the-variants.{Done, Refused}
-use Rattle.lines.specs.Writing.{answerOf, bufferOf}
+use Rattle.lines.specs.Writing.{bufferOf}
 use Rattle.session.specs.declared.feed.Fed.{Fed}
 use Rattle.session.specs.declared.feed.Session.{Session}
 use Rattle.session.specs.declared.stage.Core.{Core}
@@ -26,7 +23,7 @@ use Rattle.session.proofs.Room.{fed-holds, text-none, fed-line, text-li
 use Rattle.session.proofs.Writes.{Puts, puts-none, puts-same}
 
 -- closing by what was written
-pub shut-closed : (x : Session) (end : ℕ) (t : Turn) (r : Turned) (before after : List ℕ) → Wrote t before after r → shut x end (r .next) (r .written) ≡ closed x end t (length before)
+shut-closed : (x : Session) (end : ℕ) (t : Turn) (r : Turned) (before after : List ℕ) → Wrote t before after r → shut x end (r .next) (r .written) ≡ closed x end t (length before)
 unfolding shut pick
 shut-closed x end t r before after w = by-lt (length before) (length (t .text))
     (λ h. let e = lt-ltb (length before) (length (t .text)) h in rw (w .0, w .1, e))

@@ -47,11 +47,11 @@ module _ (st : Settling) (line : List ℕ) where
       → settleAll (r .lines ++ (line ∷ []) ++ rest) started ≡ settleOn (settleAll rest) (settleLine st line .next) (settleLine st line .answer)
   led-on r rest = rw append-assoc (r .led (line ∷ rest) ∙ one-more rest)
 
-  pub more-reached : Reached st → settleLine st line .answer ≡ More → Reached (settleLine st line .next)
+  more-reached : Reached st → settleLine st line .answer ≡ More → Reached (settleLine st line .next)
   more-reached r e = record { lines = r .lines ++ (line ∷ []); led = λ rest. led-on r rest ∙ rw e }
 
   -- whole settings are in range
-  pub whole-fits : Reached st → settleLine st line .answer ≡ Whole → settingsFit (settleLine st line .next .settings) ≡ true
+  whole-fits : Reached st → settleLine st line .answer ≡ Whole → settingsFit (settleLine st line .next .settings) ≡ true
   whole-fits r e = settings-only (r .lines ++ (line ∷ []) ++ []) (settleLine st line .next) (led-on r [] ∙ rw e) .fits
 
 settings-numbers : (s : Settings) → settingsFit s ≡ true → numbersFit (s .numbers) ≡ true

@@ -1,11 +1,10 @@
 -- What is held of a line: what the code of `carry` needs. Assumes nothing.
-use Prim.Native.Nat.{ℕ, _+_, _-_, _≤_, _<_}
+use Prim.Native.Nat.{ℕ, _-_, _≤_, _<_}
 use mathlib.Core.Path.{_≡_, refl, sym, ap, _∙_}
-use mathlib.Core.List.{List, []}
+use mathlib.Core.List.{List}
 use native.Mathlib.Omega.{arith}
-use lib.ListN.{length, take, length-take}
-use lib.Seq.{take-all, take-take, length-take-le}
-use lib.Dec.{ltb}
+use lib.ListN.{take, length-take}
+use lib.Seq.{take-all, take-take}
 use borrow.Author.Tests.{lt-ltb, le-ltb, eq-eqb, ne-eqb}
 use Rattle.units.specs.Pick.{pick}
 use Rattle.units.proofs.Picked.{by-yes, by-no}
@@ -27,7 +26,7 @@ pub fitting-some : (len n : ℕ) → carryTop - len ≤ n → carryTop - len ≡
 unfolding fitting
 fitting-some len n h = by-no _ (le-ltb n (carryTop - len) h) refl
 
-pub fitting-take : (len n : ℕ) (l : List ℕ) → take (fitting len n) l ≡ take (carryTop - len) (take n l)
+fitting-take : (len n : ℕ) (l : List ℕ) → take (fitting len n) l ≡ take (carryTop - len) (take n l)
 fitting-take len n l = by-lt n (carryTop - len)
     (λ h. ap (λ k. take k l) (sym (fitting-all len n h)) ∙ sym (take-all (carryTop - len) (take n l) (let t = length-take n l in omega arith)))
     (λ h. ap (λ k. take k l) (sym (fitting-some len n h)) ∙ sym (take-take (carryTop - len) n l h))

@@ -19,5 +19,6 @@ pub mod Demand1
 pub mod Sent
 pub mod Demand2
 pub mod Program
+pub mod Booting
 pub mod Both
 pub mod Feeds

@@ -94,7 +94,7 @@ unfolding hears
 hears-short go c a Taken h = h
 hears-short go c a (Refused why) h = let b = refusal-room why in omega arith
 
-pub turn-short : (c : Core) (line : List ℕ) (stage : Stage) → length (turnBy advancing c line stage .text) ≤ 2 * lineTop
+turn-short : (c : Core) (line : List ℕ) (stage : Stage) → length (turnBy advancing c line stage .text) ≤ 2 * lineTop
 unfolding turnBy
 turn-short c line AtSettings = settles-short c (settleLine (c .settling) line .next) (settleLine (c .settling) line .answer)
 turn-short c line Waiting =
@@ -206,9 +206,6 @@ module _ (x : Session) (piece : List ℕ) (lent : ℕ) (r : Fed) (e : r ≡ fed 
 
   pub call-wrote : r .wrote ≤ lent
   call-wrote = rw e (wrote-few x piece lent)
-
-  pub call-takes : 2 * lineTop ≤ lent → 1 ≤ length piece → 1 ≤ r .took
-  call-takes h k = rw e (progress x piece lent h k)
 
 pub finish-wrote : (x : Session) (lent : ℕ) (r : Fed) → r ≡ finished x lent → r .wrote ≤ lent
 finish-wrote x lent r e = rw e (closed-few x 0 (lastTurn x) lent)

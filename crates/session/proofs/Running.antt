@@ -2,13 +2,12 @@
 use Prim.Native.Nat.{ℕ, zero, suc, _+_, _-_, _*_, _≤_, _<_}
 use native.Mathlib.Omega.{arith}
 use mathlib.Core.Path.{_≡_, refl, sym, ap, ap₂, _∙_}
-use mathlib.Core.List.{List, [], _∷_, _++_, append-nil, append-assoc}
+use mathlib.Core.List.{List, [], _++_, append-nil, append-assoc}
 use mathlib.Core.Bool.{Bool, true, false, not, _&&_, true≢false}
 use lib.Dec.{eqb, leb}
-use lib.ListN.{length, take, drop, length-append, length-drop}
-use lib.Seq.{drop-drop, take-at, drop-at}
-use borrow.Author.Tests.{eq-eqb, ne-eqb, eqb-false, le-leb, leb-true, leb-false, not-true, not-false}
-use borrow.Rule.Slice.PartMut.{midOf, putMid}
+use lib.ListN.{length, drop, length-append, length-drop}
+use lib.Seq.{drop-drop}
+use borrow.Author.Tests.{eq-eqb, ne-eqb, le-leb, leb-true}
 use Rattle.units.specs.declared.settings.Group.{Group}
 use Rattle.units.specs.declared.settings.Numbers.{Numbers}
 use Rattle.units.specs.Limits.{lineTop}
@@ -19,7 +18,6 @@ use Rattle.lines.specs.Reading.{firstLine}
 use Rattle.lines.specs.Writing.{bufferOf}
 use Rattle.controller.specs.declared.state.Controller.{Controller}
 use Rattle.controller.specs.declared.step.Answer.{Answer}
-use Rattle.session.specs.declared.run.Ran.{Ran}
 use Rattle.session.specs.Feeding.{feedAt}
 use Rattle.session.specs.Serving.{Run, stays, follows, isTaken, goesOn, lineAnswer, answerPut, runOn, runOf, ran}
 use Rattle.session.proofs.Room.{front, put-short}

@@ -2,9 +2,9 @@
 use Prim.Native.Nat.{ℕ, zero, suc, _+_, _-_, _*_, _≤_, _<_}
 use native.Mathlib.Omega.{arith}
 use mathlib.Core.Path.{_≡_, refl, sym, ap, ap₂, subst, _∙_}
-use mathlib.Core.List.{List, [], _∷_, _++_, append-nil, append-assoc}
+use mathlib.Core.List.{List, [], _++_, append-assoc}
 use mathlib.Core.Bool.{Bool, true, false, _&&_, true≢false}
-use lib.Dec.{eqb, ltb}
+use lib.Dec.{eqb}
 use lib.ListN.{length, take, drop, length-append, length-drop}
 use lib.Seq.{drop-drop, drop-at, take-at}
 use borrow.Author.Tests.{eqb-true, eq-eqb, eqb-false, lt-ltb, le-ltb}
@@ -14,7 +14,6 @@ use Rattle.units.specs.declared.refusal.Verdict.the-variants.{Taken, Refused}
 use Rattle.units.specs.declared.settings.Numbers.{Numbers}
 use Rattle.units.specs.Limits.{lineTop}
 use Rattle.units.specs.Pick.{pick}
-use Rattle.message.specs.declared.value.Message.{Message}
 use Rattle.fields.proofs.Cases.{by-test, by-lt}
 use Rattle.lines.specs.Reading.{firstLine, readLine}
 use Rattle.lines.specs.Writing.{bufferOf}
@@ -28,16 +27,16 @@ use Rattle.session.specs.declared.stage.Stage.{Stage}
 use Rattle.session.specs.declared.stage.Stage.the-variants.{Settling as AtSettings, Waiting, Running, Ended}
 use Rattle.session.specs.Feeding.{advancing, closed, emptied, fed, fedText, feedAt, lineIn, lineTurn}
 use Rattle.session.specs.Pieces.{Feeds}
-use Rattle.session.specs.Pieces.Feeds.{none, more}
-use Rattle.session.specs.Serving.{Run, answerPut, firstText, follows, goesOn, isRunning, isTaken, lineAnswer, mayRun, ran, ranOn, runAfter, runOf, runOn, served, servedText, stays}
-use Rattle.session.specs.Turn.{Turn, groupIn, hears, numbersIn, runningWith, turnBy}
+use Rattle.session.specs.Pieces.Feeds.{more}
+use Rattle.session.specs.Serving.{Run, answerPut, firstText, goesOn, isRunning, isTaken, lineAnswer, mayRun, ran, ranOn, runAfter, runOn, served, servedText, stays}
+use Rattle.session.specs.Turn.{Turn, hears, numbersIn, runningWith, turnBy}
 use Rattle.session.proofs.Adding.{mid-rest, put-rest}
-use Rattle.session.proofs.Room.{buffer-length, call-wrote, closed-none, closed-room, fed-holds, fed-line, front, front-take, line-short, progress, put-short, short, text-line, text-none, took-few, wrote-few}
+use Rattle.session.proofs.Room.{buffer-length, call-wrote, closed-room, fed-holds, fed-line, front, front-take, progress, put-short, short, text-line, text-none, took-few, wrote-few}
 use Rattle.session.proofs.Running.{goes-order, goes-room, goes-whole, run-goes, run-none, run-stays}
 
 -- A RUN takes no more than there is, and writes no more than there is room for
 module _ (s : Numbers) where
-  pub run-took : (n : ℕ) (k : Controller) (input : List ℕ) (room : ℕ) → runOn n s k input room .took ≤ length input
+  run-took : (n : ℕ) (k : Controller) (input : List ℕ) (room : ℕ) → runOn n s k input room .took ≤ length input
   unfolding runOn
   run-took zero k input room = omega arith
   run-took (suc n) k input room =
@@ -47,7 +46,7 @@ module _ (s : Numbers) where
       let w = goes-whole (s .group) input room e in let d = length-drop (feedAt input + 1) input in rw (run-goes s k input room n e) (omega arith))
       (λ e. rw (run-stays s k input room (suc n) e) (omega arith))
 
-  pub run-wrote : (n : ℕ) (k : Controller) (input : List ℕ) (room : ℕ) → length (runOn n s k input room .text) ≤ room
+  run-wrote : (n : ℕ) (k : Controller) (input : List ℕ) (room : ℕ) → length (runOn n s k input room .text) ≤ room
   unfolding runOn
   run-wrote zero k input room = omega arith
   run-wrote (suc n) k input room =
@@ -94,11 +93,11 @@ module _ (x : Session) (piece buf : List ℕ) where
       (ap (λ (r : Fed). r .wrote) (p .0) ∙ ap (λ (u : List ℕ). length u) (sym z), p .1 ∙ sym (front [] buf (omega arith)) ∙ ap (λ (u : List ℕ). bufferOf u buf) (sym z)))
       (λ h. let z = first-all h in (wrote-all h ∙ ap (λ (u : List ℕ). length u) (sym z), ap (λ (u : List ℕ). bufferOf u buf) (sym z)))
 
-  pub first-fits : length t ≤ length buf
+  first-fits : length t ≤ length buf
   first-fits = by-lt (length buf) (length (fedText x piece)) (λ h. rw (first-none h) (omega arith)) (λ h. rw (first-all h) h)
 
   -- NOTHING BEHIND IT
-  pub serve-stays : mayRun (f .next) ≡ false → (f ≡ served x piece (length buf)) × (bufferOf (fedText x piece) buf ≡ bufferOf (servedText x piece (length buf)) buf)
+  serve-stays : mayRun (f .next) ≡ false → (f ≡ served x piece (length buf)) × (bufferOf (fedText x piece) buf ≡ bufferOf (servedText x piece (length buf)) buf)
   unfolding served servedText pick
   serve-stays e = let z : t ≡ servedText x piece (length buf) = rw e in (rw e, first-is .1 ∙ ap (λ (u : List ℕ). bufferOf u buf) z)
 
@@ -110,24 +109,24 @@ module _ (x : Session) (piece buf : List ℕ) where
     abbrev r : Run
     r = runAfter (f .next) rest (length buf - f .wrote)
 
-    pub serve-goes : served x piece (length buf) ≡ ranOn f (ran r)
+    serve-goes : served x piece (length buf) ≡ ranOn f (ran r)
     unfolding served pick
     serve-goes = rw e
 
-    pub serve-text : servedText x piece (length buf) ≡ t ++ r .text
+    serve-text : servedText x piece (length buf) ≡ t ++ r .text
     unfolding servedText pick
     serve-text = rw e
 
-    pub room-left : length (drop (length t) buf) ≡ length buf - f .wrote
+    room-left : length (drop (length t) buf) ≡ length buf - f .wrote
     room-left = length-drop (length t) buf ∙ ap (λ (n : ℕ). length buf - n) (sym (first-is .0))
 
-    pub rest-fits : length (r .text) ≤ length (drop (length t) buf)
+    rest-fits : length (r .text) ≤ length (drop (length t) buf)
     rest-fits = let w = run-wrote (numbersIn (f .next .core)) (length rest) (f .next .core .controller) rest (length buf - f .wrote) in let l = room-left in omega arith
 
-    pub both-fit : length (t ++ r .text) ≤ length buf
+    both-fit : length (t ++ r .text) ≤ length buf
     both-fit = let l = length-append t (r .text) in let g = rest-fits in let h = first-fits in let d = length-drop (length t) buf in omega arith
 
-    pub served-buffer : bufferOf (t ++ r .text) buf ≡ t ++ (r .text ++ drop (length (r .text)) (drop (length t) buf))
+    served-buffer : bufferOf (t ++ r .text) buf ≡ t ++ (r .text ++ drop (length (r .text)) (drop (length t) buf))
     served-buffer =
         let l = length-append t (r .text) in
         front (t ++ r .text) buf both-fit ∙ append-assoc t (r .text) _ ∙ ap (λ (v : List ℕ). t ++ (r .text ++ v)) (ap (λ (n : ℕ). drop n buf) l ∙ sym (drop-drop (length (r .text)) (length t) buf))
@@ -137,16 +136,16 @@ module _ (x : Session) (piece buf : List ℕ) where
       out-is : out ≡ t ++ drop (length t) buf
       out-is = b ∙ first-is .1 ∙ front t buf first-fits
 
-      pub out-length : length out ≡ length buf
+      out-length : length out ≡ length buf
       out-length = ap (λ (l : List ℕ). length l) b ∙ buffer-length (fedText x piece) buf
 
       lent : midOf (f .wrote) (length out - f .wrote) out ≡ drop (length t) buf
       lent = mid-rest (f .wrote) out ∙ ap₂ (λ (n : ℕ) (l : List ℕ). drop n l) (first-is .0) out-is ∙ drop-at t (drop (length t) buf) (length t) refl
 
-      pub lent-length : length (midOf (f .wrote) (length out - f .wrote) out) ≡ length buf - f .wrote
+      lent-length : length (midOf (f .wrote) (length out - f .wrote) out) ≡ length buf - f .wrote
       lent-length = ap (λ (l : List ℕ). length l) lent ∙ room-left
 
-      pub served-all : (w : List ℕ) → w ≡ bufferOf (r .text) (midOf (f .wrote) (length out - f .wrote) out) → putMid (f .wrote) (length out - f .wrote) out w ≡ bufferOf (servedText x piece (length buf)) buf
+      served-all : (w : List ℕ) → w ≡ bufferOf (r .text) (midOf (f .wrote) (length out - f .wrote) out) → putMid (f .wrote) (length out - f .wrote) out w ≡ bufferOf (servedText x piece (length buf)) buf
       served-all w h =
           let we : w ≡ r .text ++ drop (length (r .text)) (drop (length t) buf) = h ∙ ap (bufferOf (r .text)) lent ∙ front (r .text) (drop (length t) buf) rest-fits in
           let c : f .wrote ≤ length out = let a = first-is .0 in let g = first-fits in let d = out-length in omega arith in

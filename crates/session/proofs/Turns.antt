@@ -1,8 +1,7 @@
 -- The cases of a turn, as the code takes them. Assumes nothing.
 use Prim.Native.Nat.{ℕ}
-use mathlib.Core.Path.{_≡_, refl}
+use mathlib.Core.Path.{_≡_}
 use mathlib.Core.List.{List}
-use Rattle.units.specs.declared.labels.RoundLabel.{RoundLabel}
 use Rattle.units.specs.declared.refusal.Refusal.{Refusal}
 use Rattle.units.specs.declared.refusal.Verdict.{Verdict}
 use Rattle.units.specs.declared.refusal.Verdict.the-variants.{Taken, Refused}

@@ -189,7 +189,7 @@ unfolding answers
 last-text c [] f l = rw lines-none (none-text c (c .stage))
 last-text c (b ∷ p) f l = rw (lines-last b p l) (unended-text c b p (c .stage) refl f l)
 
-pub end-text : (y : Session) (p : List ℕ) → Stands y p → answers (y .core) (linesOf p) ≡ lastTurn y .text
+end-text : (y : Session) (p : List ℕ) → Stands y p → answers (y .core) (linesOf p) ≡ lastTurn y .text
 end-text y p s = last-text (y .core) p (s .fits) (s .unended) ∙ ap verdictText (sym (last-same (y .core .settling) p (y .core .stage)) ∙ ap (λ (n : ℕ). lastOf (y .core .settling) n (y .core .stage)) (sym (s .held .len)))
 
 -- what `finish` writes, with a line's room

@@ -1,29 +1,36 @@
 -- Texts put into a lent buffer, and turns: what the code needs of the definitions. Assumes nothing.
-use Prim.Native.Nat.{ℕ, _+_, _≤_, _<_}
-use mathlib.Core.Path.{_≡_, refl, ap, _∙_}
-use mathlib.Core.List.{List, []}
+use Prim.Native.Nat.{ℕ}
+use mathlib.Core.Path.{_≡_, refl, sym, ap, _∙_}
+use mathlib.Core.List.{List, [], append-nil}
 use mathlib.Core.Bool.{Bool, true, false}
 use native.Mathlib.Omega.{arith}
 use lib.Dec.{ltb}
 use lib.ListN.{length}
 use borrow.Author.Tests.{le-ltb}
 use Rattle.units.specs.declared.refusal.Refusal.{Refusal}
+use Rattle.units.specs.declared.refusal.Verdict.{Verdict}
+use Rattle.units.specs.declared.refusal.Verdict.the-variants.{Taken}
 use Rattle.units.specs.declared.settings.Numbers.{Numbers}
 use Rattle.units.specs.Pick.{pick}
 use Rattle.message.specs.declared.head.Head.{Head}
 use Rattle.message.specs.declared.value.Message.{Message}
-use Rattle.message.specs.Message.{messageFits}
+use Rattle.message.specs.Head.{isPlain}
+use Rattle.message.specs.Message.{messageFits, plain}
+use Rattle.plan.specs.declared.planned.Sent.{Sent}
+use Rattle.plan.specs.declared.planned.Sent.the-variants.{Nothing, One}
 use Rattle.fields.proofs.Cases.{by-test}
 use Rattle.lines.specs.declared.write.Written.{Written}
 use Rattle.lines.specs.declared.write.Written.the-variants.{Done}
-use Rattle.lines.specs.Writing.{answerOf, bufferOf, spellLine, writeAnswer, writeBuffer}
+use Rattle.lines.specs.Writing.{answerOf, bufferOf, plainFits, spellLine, writeAnswer, writeBuffer}
+use Rattle.lines.proofs.Plain.{plain-same}
 use Rattle.controller.specs.declared.state.Controller.{Controller}
 use Rattle.controller.specs.declared.step.Answer.{Answer}
 use Rattle.controller.specs.Sent.{sentMessage}
+use Rattle.controller_laws.proofs.Sendings.{sent-plain}
 use Rattle.session.specs.declared.stage.Core.{Core}
 use Rattle.session.specs.declared.turn.Turned.{Turned}
-use Rattle.session.specs.Feeding.{Wrote, advances, fitText, orNothing, putText}
-use Rattle.session.specs.Turn.{Turn, numbersIn, quiet, refusing, runningWith}
+use Rattle.session.specs.Feeding.{Wrote, advances, fitText, orNothing, putText, restText}
+use Rattle.session.specs.Turn.{Turn, numbersIn, quiet, refusing, runningWith, verdictText}
 
 -- a text and a buffer: what is answered, and the buffer after it
 abbrev pub Puts : List ℕ → List ℕ → List ℕ → Written → Type 0
@@ -68,3 +75,13 @@ pub fit-puts : (s : Numbers) (c : Controller) (head : Head) (m : Message) → m 
     → (w ≡ writeAnswer (messageFits (s .group) m) (spellLine (s .group) m) before) × (after ≡ writeBuffer (messageFits (s .group) m) (spellLine (s .group) m) before) → Puts (fitText s c head) before after r
 unfolding fitText
 fit-puts s c head m me before e h = rw (← me) (or-puts (messageFits (s .group) m) (spellLine (s .group) m) before e h)
+
+-- the same of a kind that carries no array, written from its head alone
+pub plain-puts : (s : Numbers) (c : Controller) (head : Head) → isPlain head ≡ true → (before : List ℕ) {after : List ℕ} {w r : Written} → r ≡ orNothing w
+    → (w ≡ writeAnswer (plainFits (s .group) head) (spellLine (s .group) (plain head)) before) × (after ≡ writeBuffer (plainFits (s .group) head) (spellLine (s .group) (plain head)) before) → Puts (fitText s c head) before after r
+plain-puts s c head p before e h = fit-puts s c head (plain head) (sym (sent-plain s c head p)) before e (rw (plain-same (s .group) head p) at h)
+
+-- one line and nothing after it
+pub one-text : (s : Numbers) (c : Controller) (head : Head) {first second : Sent} {v : Verdict} → first ≡ One head → second ≡ Nothing → v ≡ Taken → putText s c second v first ≡ fitText s c head
+unfolding putText restText verdictText
+one-text s c head e f g = rw (e, f, g) (append-nil (fitText s c head))

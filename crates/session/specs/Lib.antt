@@ -7,3 +7,4 @@ pub mod Example
 pub mod Reach
 pub mod Pieces
 pub mod Demand
+pub mod Booting

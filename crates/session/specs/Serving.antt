@@ -24,7 +24,6 @@ use Rattle.controller.specs.Step.{planned}
 use Rattle.session.specs.declared.feed.Fed.{Fed}
 use Rattle.session.specs.declared.feed.Session.{Session}
 use Rattle.session.specs.declared.run.Ran.{Ran}
-use Rattle.session.specs.declared.stage.Core.{Core}
 use Rattle.session.specs.declared.stage.Stage.{Stage}
 use Rattle.session.specs.declared.stage.Stage.the-variants.{Settling as AtSettings, Waiting, Running, Ended}
 use Rattle.session.specs.Turn.{numbersIn, runningWith}

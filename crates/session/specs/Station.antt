@@ -9,7 +9,7 @@ use Rattle.lines.specs.Writing.{refusalLine}
 use Rattle.session.specs.declared.stage.Core.{Core}
 use Rattle.session.specs.declared.stage.Stage.{Stage}
 use Rattle.session.specs.declared.stage.Stage.the-variants.{Settling as AtSettings, Waiting, Running, Ended}
-use Rattle.session.specs.Turn.{Turn, coreStart, turn}
+use Rattle.session.specs.Turn.{coreStart, turn}
 
 -- THE LINES OF AN INPUT: each up to its line feed and with it; what comes after the last line feed is a line too, unended, where it is anything
 abbrev pub onto : ℕ → List (List ℕ) → List (List ℕ)

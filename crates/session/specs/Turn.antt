@@ -1,7 +1,6 @@
 -- WHAT ONE WHOLE LINE LEADS TO: the settings first, then a controller; what the program is at next, and the bytes that it writes.
 use Prim.Native.Nat.{ℕ}
 use mathlib.Core.List.{List, [], _++_}
-use Rattle.units.specs.declared.labels.RoundLabel.{RoundLabel}
 use Rattle.units.specs.declared.refusal.Refusal.{Refusal}
 use Rattle.units.specs.declared.refusal.Refusal.the-variants.{Closed}
 use Rattle.units.specs.declared.refusal.Verdict.{Verdict}
@@ -13,10 +12,8 @@ use Rattle.message.specs.declared.head.Head.the-variants.{Reading, Query, Reply
 use Rattle.message.specs.declared.value.Message.{Message}
 use Rattle.plan.specs.declared.planned.Sent.{Sent}
 use Rattle.plan.specs.declared.planned.Sent.the-variants.{Nothing, One}
-use Rattle.lines.specs.declared.read.Line.{Line}
 use Rattle.lines.specs.declared.settle.Answer.{Answer as Told}
 use Rattle.lines.specs.declared.settle.Answer.the-variants.{More, Whole, Refused as NoSettings}
-use Rattle.lines.specs.declared.settle.Settled.{Settled}
 use Rattle.lines.specs.declared.settle.Settling.{Settling}
 use Rattle.lines.specs.Reading.{readLine}
 use Rattle.lines.specs.Settling.{started, settleLine}

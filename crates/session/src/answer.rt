@@ -10,6 +10,7 @@ use controller::Controller;
 use fields::put_part;
 use lines::write::Written;
 use lines::write::write;
+use lines::write::write_plain;
 use lines::write::write_refusal;
 use message::Head;
 use plan::Sent;
@@ -31,6 +32,9 @@ fn or_nothing(written: Written) -> Written
 fn put_sent(c: Controller, numbers: Numbers, head: Head, out: &mut [u8]) -> Written
     ensures { λ r. ⌜ (r ≡ answerOf (fitText numbers c head) (now (out .entry))) × (now (out .exit) ≡ bufferOf (fitText numbers c head) (now (out .entry))) ⌝ }
 {
+    if head.is_plain() {
+        return or_nothing(write_plain(head, numbers.group, out));
+    }
     let message = c.message(numbers, head);
     or_nothing(write(message, numbers.group, out))
 }
@@ -120,6 +124,12 @@ pub(crate) fn put_answer(
 {
     match first {
         Sent::Nothing => put_verdict(verdict, out),
-        Sent::One(head) => put_both(c, numbers, head, second, verdict, out),
+        Sent::One(head) => match second {
+            Sent::Nothing => match verdict {
+                Verdict::Taken => put_sent(c, numbers, head, out),
+                Verdict::Refused(_) => put_both(c, numbers, head, second, verdict, out),
+            },
+            Sent::One(_) => put_both(c, numbers, head, second, verdict, out),
+        },
     }
 }

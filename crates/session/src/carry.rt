@@ -23,8 +23,8 @@ const HELD: usize = LINE + 1;
 
 // The first `len` bytes count.
 pub struct Carry {
-    pub len: usize,
-    pub bytes: [u8; HELD],
+    pub(crate) len: usize,
+    pub(crate) bytes: [u8; HELD],
 }
 
 // How many of n more bytes are held.

@@ -2,7 +2,7 @@
 ghost use mathlib.Core.Path.{_≡_};
 ghost use lib.ListN.{length};
 ghost use Rattle.lines.specs.Writing.{bufferOf};
-ghost use Rattle.session.specs.Feeding.{closed, fed, fedText, finished, holding, isEnded, lastOf, lastTurn, sessionStart, shut, unendedLine};
+ghost use Rattle.session.specs.Feeding.{fed, fedText, finished, holding, isEnded, lastOf, lastTurn, sessionStart, shut, unendedLine};
 use crate::answer::put_verdict;
 use crate::carry::Carry;
 use crate::stage::Core;
@@ -15,8 +15,8 @@ use units::Verdict;
 use units::limits::LINE;
 
 pub struct Session {
-    pub core: Core,
-    pub carry: Carry,
+    pub(crate) core: Core,
+    pub(crate) carry: Carry,
 }
 
 // The session after a call, how much of the input it took, how much it wrote, and 16 where there was too little room.

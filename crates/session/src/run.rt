@@ -20,9 +20,9 @@ const ROOM: usize = 2 * LINE;
 
 // The controller after the lines that were taken, how many bytes they have, and how many were written.
 pub struct Ran {
-    pub next: Controller,
-    pub took: usize,
-    pub wrote: usize,
+    pub(crate) next: Controller,
+    pub(crate) took: usize,
+    pub(crate) wrote: usize,
 }
 
 fn is_taken(verdict: Verdict) -> bool

@@ -14,9 +14,9 @@ pub enum Stage {
 
 // The settings read so far, and the controller, which counts once it runs.
 pub struct Core {
-    pub stage: Stage,
-    pub settling: Settling,
-    pub controller: Controller,
+    pub(crate) stage: Stage,
+    pub(crate) settling: Settling,
+    pub(crate) controller: Controller,
 }
 
 impl Core {

@@ -1,7 +1,6 @@
 // One whole line's turn: what the program is at next, and what it wrote.
 ghost use mathlib.Core.Path.{_≡_};
 ghost use lib.ListN.{length, take};
-ghost use Rattle.lines.specs.Writing.{answerOf, bufferOf};
 ghost use Rattle.session.specs.Feeding.{Heard, Wrote, advancing, feedAt, lineEnding, lineIn};
 ghost use Rattle.session.specs.Turn.{hears, numbersIn, refusing, runningWith, settlesTo, turnBy, waitsFor};
 ghost use Rattle.lines.specs.declared.write.Written.{Written};
@@ -25,8 +24,8 @@ use units::RoundLabel;
 use units::Verdict;
 
 pub struct Turned {
-    pub next: Core,
-    pub written: Written,
+    pub(crate) next: Core,
+    pub(crate) written: Written,
 }
 
 impl Core {

@@ -8,15 +8,16 @@ use Rattle.units.specs.declared.labels.StateLabel.{StateLabel}
 use Rattle.units.specs.declared.estimate.Estimate.{Estimate}
 use Rattle.units.specs.declared.settings.Numbers.{Numbers}
 use Rattle.units.specs.Labels.{before}
+use Rattle.units.specs.Mask.{maskFits}
 use Rattle.units.specs.Settings.{numbersFit}
 use Rattle.floats.specs.Ranges.{stateFits}
-use Rattle.filter.specs.Checked.{chosenFits, inputsFit, readingsFit}
+use Rattle.filter.specs.Checked.{inputsFit, readingsFit}
 use borrow.Author.Needs.{needs}
 use Rattle.filter.proofs.checked.inputs_in_range.Statement.{statement}
 use Rattle.filter.proofs.checked.inputs_in_range.Tie as tie
 
 made : (label : RoundLabel) (base : StateLabel) (state : List Estimate) (s : Numbers) (chosen : ℕ) (readings : List ℕ) (a b d e f : Bool)
-    → a ≡ numbersFit s → b ≡ stateFits (s .group .m) state → d ≡ before base label → e ≡ chosenFits (s .group .m) chosen → f ≡ readingsFit (s .group .m) readings
+    → a ≡ numbersFit s → b ≡ stateFits (s .group .m) state → d ≡ before base label → e ≡ maskFits (s .group .m) chosen → f ≡ readingsFit (s .group .m) readings
     → ((a && b) && ((d && e) && f)) ≡ inputsFit label base state s chosen readings
 unfolding inputsFit
 made label base state s chosen readings a b d e f A B D E F = cc
@@ -30,8 +31,8 @@ state-in-range-requires c κs = search needs
 before-requires : tie.Need-before-requires
 before-requires c κs = search needs
 
-chosen-in-range-requires : tie.Need-chosen-in-range-requires
-chosen-in-range-requires c κs = search needs
+mask-in-range-requires : tie.Need-mask-in-range-requires
+mask-in-range-requires c κs = search needs
 
 readings-in-range-requires : tie.Need-readings-in-range-requires
 readings-in-range-requires c κs = search needs
@@ -39,7 +40,7 @@ readings-in-range-requires c κs = search needs
 returns : tie.Need-returns
 returns c =
     let a = c .before .before .before .before .before .args in
-    made (a .label) (a .base) (a .state) (a .numbers) (a .chosen) (a .readings) _ _ _ _ _ (c .before .before .before .before .in-range .ensures) (c .before .before .before .state-in-range .ensures) (c .before .before .before2 .ensures) (c .before .chosen-in-range .ensures) (c .readings-in-range .ensures)
+    made (a .label) (a .base) (a .state) (a .numbers) (a .chosen) (a .readings) _ _ _ _ _ (c .before .before .before .before .in-range .ensures) (c .before .before .before .state-in-range .ensures) (c .before .before .before2 .ensures) (c .before .mask-in-range .ensures) (c .readings-in-range .ensures)
 
 pub inputs-in-range-spec : {M : Type 1} → statement M
 inputs-in-range-spec =
@@ -48,6 +49,6 @@ inputs-in-range-spec =
     in-range-requires
     state-in-range-requires
     before-requires
-    chosen-in-range-requires
+    mask-in-range-requires
     readings-in-range-requires
     returns)

@@ -1,5 +1,4 @@
 -- `added_by` meets its contract. Assumes nothing.
-use mathlib.Core.Path.{sym, _∙_}
 use Rattle.session.proofs.Adding.{no-reading, reading-added}
 use borrow.Author.Needs.{needs}
 use Rattle.session.proofs.run.added_by.Statement.{statement}

@@ -1,5 +1,4 @@
 -- `Carry::hold` meets its contract. Assumes nothing.
-use Prim.Native.Nat.{_≤_}
 use native.Mathlib.Omega.{arith}
 use mathlib.Core.Path.{refl, sym}
 use lib.Seq.{length-take-le, take-all}

@@ -1,0 +1,46 @@
+-- FROM A NEW PROGRAM TO A RUNNING CONTROLLER: where lines lead, and what the lines of settings and a B lead to.
+use Prim.Native.Nat.{ℕ}
+use mathlib.Core.Path.{_≡_}
+use mathlib.Core.List.{List, [], _∷_, _++_}
+use Rattle.units.specs.declared.labels.RoundLabel.{RoundLabel}
+use Rattle.message.specs.declared.head.Head.the-variants.{Start}
+use Rattle.message.specs.declared.settings.Settings.{Settings}
+use Rattle.message.specs.Message.{plain}
+use Rattle.lines.specs.Settings.{settingLines}
+use Rattle.lines.specs.Writing.{spellLine}
+use Rattle.controller.specs.Start.{startOf}
+use Rattle.session.specs.declared.feed.Session.{Session}
+use Rattle.session.specs.declared.stage.Core.{Core}
+use Rattle.session.specs.declared.stage.Stage.the-variants.{Waiting, Running}
+use Rattle.session.specs.Feeding.{sessionStart}
+use Rattle.session.specs.Pieces.{Feeds}
+use Rattle.session.specs.Turn.{coreStart, turn}
+
+-- where lines lead a program
+unfoldable pub led : Core → List (List ℕ) → Core
+led c [] = c
+led c (l ∷ ls) = led (turn c l .next) ls
+
+-- lines as one input
+unfoldable pub bytesOf : List (List ℕ) → List ℕ
+bytesOf [] = []
+bytesOf (l ∷ ls) = l ++ bytesOf ls
+
+-- A NEW SESSION THAT WAS FED THE SETTINGS, line by line up to the one that makes them whole, has written nothing and waits for its first B, with just these settings ..
+pub record Settles (s : Settings) : Type 0 where
+  pub lines : List (List ℕ)
+  pub rest : List (List ℕ)
+  pub all : lines ++ rest ≡ settingLines s
+  pub end : Session
+  pub calls : Feeds sessionStart (bytesOf lines) [] end
+  pub waits : end .core .stage ≡ Waiting
+  pub settings : end .core .settling .settings ≡ s
+  -- .. and that it is led there, line by line
+  pub core : end .core ≡ led coreStart lines
+
+-- .. and a B after them gives it a running controller, at its start
+pub record Starts (s : Settings) (own : ℕ) (floor : RoundLabel) (lines : List (List ℕ)) : Type 0 where
+  pub end : Session
+  pub calls : Feeds sessionStart (bytesOf (lines ++ (spellLine (s .numbers .group) (plain (Start own floor)) ∷ []))) [] end
+  pub runs : end .core .stage ≡ Running
+  pub controller : end .core .controller ≡ startOf (s .numbers) own floor
