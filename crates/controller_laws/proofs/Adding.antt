@@ -11,7 +11,6 @@ use Rattle.units.specs.declared.refusal.Refusal.the-variants.{Late, Closed, Cla
 use Rattle.units.specs.declared.settings.Numbers.{Numbers}
 use Rattle.units.specs.Labels.{before}
 use Rattle.units.specs.Mask.{inMask}
-use Rattle.units.specs.Pick.{pick}
 use Rattle.message.specs.declared.head.Head.the-variants.{Reading}
 use Rattle.message.specs.declared.value.Message.{Message}
 use Rattle.plan.specs.declared.brief.Brief.{Brief}
@@ -53,6 +52,10 @@ abbrev raw-of : Change → ℕ
 raw-of Unchanged = 0
 raw-of (OneReading run raw) = raw
 raw-of More = 0
+
+-- more is not one reading
+pub not-one : {A : Type 0} {run raw : ℕ} → More ≡ OneReading run raw → A
+not-one q = never (ap is-one q)
 
 -- WHERE ONE READING IS ALL THAT CHANGES, adding it is all that the plan is
 module _ (run raw : ℕ) where

@@ -5,12 +5,12 @@ use mir.Val.{Fits}
 use native.Mathlib.Omega.{arith}
 use mathlib.Core.Path.{_≡_, refl, sym, ap, _∙_}
 use mathlib.Core.Bool.{Bool, true, false, not, _||_, true≢false}
-use mathlib.Core.List.{List, [], _++_, append-nil}
+use mathlib.Core.List.{List, [], _++_}
 use lib.Dec.{eqb}
 use lib.ListN.{length, take, drop, length-drop}
-use lib.Seq.{take-all, take-at, drop-at, drop-drop, drop-length}
+use lib.Seq.{take-at, drop-at}
 use borrow.Author.Tests.{eqb-true, eqb-false}
-use borrow.Rule.Slice.PartMut.{midOf, postOf, putMid}
+use borrow.Rule.Slice.PartMut.{midOf, putMid}
 use Rattle.units.specs.declared.labels.RoundLabel.{RoundLabel}
 use Rattle.units.specs.declared.settings.Numbers.{Numbers}
 use Rattle.message.specs.declared.head.Head.{Head}
@@ -21,7 +21,7 @@ use Rattle.plan.specs.declared.planned.Change.the-variants.{Nothing as Unchange
 use Rattle.plan.specs.declared.planned.Effect.the-variants.{Add}
 use Rattle.plan.specs.declared.planned.Plan.{Plan}
 use Rattle.plan.specs.Plan.{does, changeOf}
-use Rattle.fields.proofs.Cases.{absurd-by, by-test}
+use Rattle.fields.proofs.Cases.{by-test}
 use Rattle.lines.specs.declared.read.First.{First}
 use Rattle.lines.specs.Reading.{firstLine}
 use Rattle.lines.specs.Writing.{answerOf, bufferOf}
@@ -30,21 +30,16 @@ use Rattle.controller.specs.declared.state.Controller.{Controller}
 use Rattle.controller.specs.declared.step.Answer.{Answer}
 use Rattle.controller.specs.Effects.{added, applied}
 use Rattle.controller.specs.Step.{planned, readingChange}
-use Rattle.controller_laws.proofs.Adding.{adds-one, changes-none}
-use Rattle.session.specs.Feeding.{advanced, doneLength, feedAt, putText}
-use Rattle.session.specs.Serving.{AddedBy, answerPut, goesOn, isTaken, lineAnswer, ran, runOf}
+use Rattle.controller_laws.proofs.Adding.{adds-one, changes-none, not-one}
+use Rattle.session.specs.Feeding.{advanced, answerPut, doneLength, feedAt, putText}
+use Rattle.session.specs.Serving.{AddedBy, goesOn, isTaken, lineAnswer, ran, runOf}
 use Rattle.session.specs.Turn.{verdictText}
-use Rattle.session.proofs.Both.{length-done}
+use Rattle.session.proofs.Both.{length-done, mid-rest, put-rest}
 use Rattle.session.proofs.Room.{front}
 use Rattle.session.proofs.Running.{Going, goes-on, no-room, no-line, no-order, stops, goes-further, line-room, line-within}
 
-abbrev is-one : Change → ℕ
-is-one Unchanged = 0
-is-one (OneReading run raw) = 1
-is-one More = 0
-
 pub no-reading : (k : Controller) (head : Head) → AddedBy k head More
-no-reading k head s a run raw q = absurd-by (ap is-one q)
+no-reading k head s a run raw q = not-one q
 
 pub reading-added : (k : Controller) (head : Head) (label : RoundLabel) (run raw : ℕ) → head ≡ Reading label run raw → {change : Change} → change ≡ readingChange k label run raw → AddedBy k head change
 reading-added k head label run raw e c s a r w q = rw e (adds-one r w s k a label run raw (sym c ∙ q))
@@ -74,16 +69,6 @@ module _ (s : Numbers) (k : Controller) (a : Message) where
 -- a sum that is no more than a length fits
 pub sum-fits : (n top : ℕ) → n ≤ top → top < 18446744073709551616 → Fits w64 n
 sum-fits n top h t = omega arith
-
--- the rest of a list, as a part that is lent
-pub mid-rest : (n : ℕ) (l : List ℕ) → midOf n (length l - n) l ≡ drop n l
-mid-rest n l = take-all (length l - n) (drop n l) (let a = length-drop n l in omega arith)
-
-pub put-rest : (n : ℕ) (l w : List ℕ) → n ≤ length l → putMid n (length l - n) l w ≡ take n l ++ w
-put-rest n l w h = ap (λ (v : List ℕ). take n l ++ (w ++ v)) none ∙ ap (λ (v : List ℕ). take n l ++ v) (append-nil w)
-  where
-    none : postOf n (length l - n) l ≡ []
-    none = drop-drop (length l - n) n l ∙ ap (λ (k : ℕ). drop k l) (let z : n + (length l - n) ≡ length l = omega (arith, h) in z) ∙ drop-length l
 
 -- THE WAYS OF THE LOOP
 module _ (s : Numbers) (k₀ : Controller) (input before : List ℕ) {k : Controller} {at filled : ℕ} {now : List ℕ} (h : Going s k₀ input before k at filled now) (same : length now ≡ length before) where

@@ -41,7 +41,7 @@ use Rattle.session.specs.declared.feed.Fed.{Fed}
 use Rattle.session.specs.declared.feed.Session.{Session}
 use Rattle.session.specs.declared.stage.Core.{Core}
 use Rattle.session.specs.declared.stage.Stage.the-variants.{Settling as AtSettings, Waiting}
-use Rattle.session.specs.Booting.{led, bytesOf, Settles, Starts}
+use Rattle.session.specs.Booting.{led, inputOf, Settles, Starts}
 use Rattle.session.specs.Feeding.{feedAt, lineTurn, closed, fed, fedText, sessionStart}
 use Rattle.session.specs.Pieces.{Feeds, Stands}
 use Rattle.session.specs.Pieces.Feeds.{none, more}
@@ -88,11 +88,11 @@ module _ (x : Session) (line : List ℕ) (s : Stands x []) (w : feedAt line + 1 
 
 record Reaches (x : Session) (ls : List (List ℕ)) (e : Core) : Type 0 where
   pub end : Session
-  pub calls : Feeds x (bytesOf ls) [] end
+  pub calls : Feeds x (inputOf ls) [] end
   pub core : end .core ≡ e
 
 reaches : {c e : Core} {ls : List (List ℕ)} → Quietly c ls e → (x : Session) → Stands x [] → x .core ≡ c → Reaches x ls e
-unfolding bytesOf
+unfolding inputOf
 reaches here x s q = record { end = x; calls = none; core = q }
 reaches (then {line} {ls} {d} w t k) x s q =
     let u : turn (x .core) line ≡ quiet d = ap (λ (c : Core). turn c line) q ∙ t in

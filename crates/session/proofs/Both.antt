@@ -19,6 +19,16 @@ use Rattle.lines.specs.Writing.{bufferOf}
 use Rattle.session.specs.Feeding.{doneLength}
 use Rattle.session.proofs.Writes.{Puts}
 
+-- the rest of a list, as a part that is lent
+pub mid-rest : (n : ℕ) (l : List ℕ) → midOf n (length l - n) l ≡ drop n l
+mid-rest n l = take-all (length l - n) (drop n l) (let a = length-drop n l in omega arith)
+
+pub put-rest : (n : ℕ) (l w : List ℕ) → n ≤ length l → putMid n (length l - n) l w ≡ take n l ++ w
+put-rest n l w h = ap (λ (v : List ℕ). take n l ++ (w ++ v)) none ∙ ap (λ (v : List ℕ). take n l ++ v) (append-nil w)
+  where
+    none : postOf n (length l - n) l ≡ []
+    none = drop-drop (length l - n) n l ∙ ap (λ (k : ℕ). drop k l) (let z : n + (length l - n) ≡ length l = omega (arith, h) in z) ∙ drop-length l
+
 -- a text in a buffer with room, and with too little
 pub puts-room : (t before : List ℕ) → length t ≤ length before → Puts t before (t ++ drop (length t) before) (Done (length t))
 unfolding pick
@@ -68,9 +78,6 @@ module _ (t u out : List ℕ) (n : ℕ) (ne : n ≡ length t) where
         let s = puts-short (t ++ u) out (let l = length-append t u in let m = mid-length in let k = q .0 in omega arith) in
         (q .1 ∙ s .0, ap (putMid n (length out - n) out) (q .2) ∙ put-same n (length out - n) out ∙ s .1)
 
-    mid-all : midOf n (length out - n) out ≡ drop n out
-    mid-all = take-all (length out - n) (drop n out) (let a = length-drop n out in omega arith)
-
     -- room for both
     module _ (more : ℕ) (e : r ≡ Done more) where
       abbrev Q : (length u ≤ length (midOf n (length out - n) out)) × (more ≡ length u) × (after ≡ u ++ drop (length u) (midOf n (length out - n) out))
@@ -85,26 +92,17 @@ module _ (t u out : List ℕ) (n : ℕ) (ne : n ≡ length t) where
       tail : after ≡ u ++ drop (length (t ++ u)) out
       tail =
           let g : n + length u ≡ length (t ++ u) = let l = length-append t u in omega arith in
-          Q .2 ∙ ap (λ w. u ++ drop (length u) w) mid-all ∙ ap (λ w. u ++ w) (drop-drop (length u) n out ∙ ap (λ k. drop k out) g)
+          Q .2 ∙ ap (λ w. u ++ drop (length u) w) (mid-rest n out) ∙ ap (λ w. u ++ w) (drop-drop (length u) n out ∙ ap (λ k. drop k out) g)
 
       pub both-done : (line zeros last : List ℕ) → line ≡ bufferOf t zeros → length t ≤ length zeros → last ≡ put (putMid n (length out - n) out after) 0 (take n line)
           → Puts (t ++ u) out last (Done (n + more))
       both-done line zeros last b z l =
           let s = puts-room (t ++ u) out fits in
           let first : take n line ≡ t = ap (take n) (b ∙ sym (puts-room t zeros z .1)) ∙ take-at t (drop (length t) zeros) n (sym ne) in
-          let whole : putMid n (length out - n) out after ≡ take n out ++ (u ++ drop (length (t ++ u)) out) =
-          ap (λ w. take n out ++ w) (ap (λ w. w ++ postOf n (length out - n) out) tail
-          ∙ ap (λ w. (u ++ drop (length (t ++ u)) out) ++ w) (post-none)
-          ∙ append-nil _) in
+          let whole : putMid n (length out - n) out after ≡ take n out ++ (u ++ drop (length (t ++ u)) out) = put-rest n out after h ∙ ap (λ w. take n out ++ w) tail in
           let laid : last ≡ t ++ (u ++ drop (length (t ++ u)) out) = l ∙ ap (λ w. put w 0 (take n line)) whole ∙ ap (put _ 0) first ∙ at-front in
           (ap Done (ap (λ k. k + more) ne ∙ ap (λ k. length t + k) (Q .1) ∙ sym (length-append t u)) ∙ s .0, laid ∙ sym (append-assoc t u _) ∙ s .1)
         where
-          post-none : postOf n (length out - n) out ≡ []
-          post-none = drop-drop (length out - n) n out ∙ ap (λ k. drop k out) (total n (length out) h) ∙ drop-length out
-            where
-              total : (a b : ℕ) → a ≤ b → a + (b - a) ≡ b
-              total a b g = omega arith
-
           at-front : put (take n out ++ (u ++ drop (length (t ++ u)) out)) 0 t ≡ t ++ (u ++ drop (length (t ++ u)) out)
           at-front =
               let w = take n out ++ (u ++ drop (length (t ++ u)) out) in

@@ -18,8 +18,8 @@ use Rattle.lines.specs.Reading.{firstLine}
 use Rattle.lines.specs.Writing.{bufferOf}
 use Rattle.controller.specs.declared.state.Controller.{Controller}
 use Rattle.controller.specs.declared.step.Answer.{Answer}
-use Rattle.session.specs.Feeding.{feedAt}
-use Rattle.session.specs.Serving.{Run, stays, follows, isTaken, goesOn, lineAnswer, answerPut, runOn, runOf, ran}
+use Rattle.session.specs.Feeding.{answerPut, feedAt}
+use Rattle.session.specs.Serving.{Run, stays, follows, isTaken, goesOn, lineAnswer, runOn, runOf, ran}
 use Rattle.session.proofs.Room.{front, put-short}
 
 -- WHETHER THE NEXT LINE IS SERVED

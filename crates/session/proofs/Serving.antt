@@ -3,7 +3,7 @@ use Prim.Native.Nat.{ℕ, zero, suc, _+_, _-_, _*_, _≤_, _<_}
 use native.Mathlib.Omega.{arith}
 use mathlib.Core.Path.{_≡_, refl, sym, ap, ap₂, subst, _∙_}
 use mathlib.Core.List.{List, [], _++_, append-assoc}
-use mathlib.Core.Bool.{Bool, true, false, _&&_, true≢false}
+use mathlib.Core.Bool.{true, false, true≢false}
 use lib.Dec.{eqb}
 use lib.ListN.{length, take, drop, length-append, length-drop}
 use lib.Seq.{drop-drop, drop-at, take-at}
@@ -13,6 +13,7 @@ use Rattle.units.specs.declared.refusal.Verdict.{Verdict}
 use Rattle.units.specs.declared.refusal.Verdict.the-variants.{Taken, Refused}
 use Rattle.units.specs.declared.settings.Numbers.{Numbers}
 use Rattle.units.specs.Limits.{lineTop}
+use Rattle.units.proofs.Every.{and-left, and-right}
 use Rattle.units.specs.Pick.{pick}
 use Rattle.fields.proofs.Cases.{by-test, by-lt}
 use Rattle.lines.specs.Reading.{firstLine, readLine}
@@ -25,12 +26,12 @@ use Rattle.session.specs.declared.run.Ran.{Ran}
 use Rattle.session.specs.declared.stage.Core.{Core}
 use Rattle.session.specs.declared.stage.Stage.{Stage}
 use Rattle.session.specs.declared.stage.Stage.the-variants.{Settling as AtSettings, Waiting, Running, Ended}
-use Rattle.session.specs.Feeding.{advancing, closed, emptied, fed, fedText, feedAt, lineIn, lineTurn}
+use Rattle.session.specs.Feeding.{advancing, answerPut, closed, emptied, fed, fedText, feedAt, lineIn, lineTurn}
 use Rattle.session.specs.Pieces.{Feeds}
 use Rattle.session.specs.Pieces.Feeds.{more}
-use Rattle.session.specs.Serving.{Run, answerPut, firstText, goesOn, isRunning, isTaken, lineAnswer, mayRun, ran, ranOn, runAfter, runOn, served, servedText, stays}
+use Rattle.session.specs.Serving.{Run, firstText, goesOn, isRunning, isTaken, lineAnswer, mayRun, ran, ranOn, runAfter, runOn, served, servedText, stays}
 use Rattle.session.specs.Turn.{Turn, hears, numbersIn, runningWith, turnBy}
-use Rattle.session.proofs.Adding.{mid-rest, put-rest}
+use Rattle.session.proofs.Both.{mid-rest, put-rest}
 use Rattle.session.proofs.Room.{buffer-length, call-wrote, closed-room, fed-holds, fed-line, front, front-take, progress, put-short, short, text-line, text-none, took-few, wrote-few}
 use Rattle.session.proofs.Running.{goes-order, goes-room, goes-whole, run-goes, run-none, run-stays}
 
@@ -325,7 +326,7 @@ module _ (x : Session) (piece rest buf : List ℕ) (out : List ℕ) (y : Session
       let l = drop (g .took) piece in
       let t = firstText x piece (length buf) in
       let r = runAfter (g .next) l (length buf - g .wrote) in
-      let z : k .len ≡ 0 = eqb-true (k .len) 0 (and-r (isRunning (c .stage)) (eqb (k .len) 0) e) in
+      let z : k .len ≡ 0 = eqb-true (k .len) 0 (and-right (isRunning (c .stage)) (eqb (k .len) 0) e) in
       let same : emptied k ≡ k = ap (λ (i : ℕ). record { len = i; bytes = k .bytes }) (sym z) in
       let d : drop (r .took) l ≡ drop (g .took + r .took) piece = drop-drop (r .took) (g .took) piece in
       let p : After (ranOn g (ran r)) = subst After (serve-goes x piece buf e) h in
@@ -334,7 +335,7 @@ module _ (x : Session) (piece rest buf : List ℕ) (out : List ℕ) (y : Session
       → Feeds (at-line c (c .controller) k) (l ++ rest) (runOn (length l) (numbersIn c) (c .controller) l m .text ++ out) y) (room-left x piece buf e)
       (run-more c (length l) (c .controller) k l rest (drop (length t) buf) z) (rw (same, d) p) in
       let j : Feeds (g .next) (l ++ rest) (r .text ++ out) y =
-      subst (λ (b : Core). Feeds (record { core = b; carry = k }) (l ++ rest) (r .text ++ out) y) (running-core c (and-l (isRunning (c .stage)) (eqb (k .len) 0) e)) i in
+      subst (λ (b : Core). Feeds (record { core = b; carry = k }) (l ++ rest) (r .text ++ out) y) (running-core c (and-left (isRunning (c .stage)) (eqb (k .len) 0) e)) i in
       let a = first-is x piece buf in
       let o : take (g .wrote) (bufferOf (fedText x piece) buf) ≡ t = ap₂ (λ (n : ℕ) (b : List ℕ). take n b) (a .0) (a .1) ∙ front-take t buf (first-fits x piece buf) in
       let w : served x piece (length buf) .wrote ≡ length (t ++ r .text) = ap (λ (f : Fed). f .wrote) (serve-goes x piece buf e) ∙ ap (λ (n : ℕ). n + length (r .text)) (a .0) ∙ sym (length-append t (r .text)) in
@@ -342,14 +343,6 @@ module _ (x : Session) (piece rest buf : List ℕ) (out : List ℕ) (y : Session
       ap₂ (λ (n : ℕ) (u : List ℕ). take n (bufferOf u buf)) w (serve-text x piece buf e) ∙ front-take (t ++ r .text) buf (both-fit x piece buf e) in
       subst (λ (u : List ℕ). Feeds x (piece ++ rest) u y) (ap (λ (u : List ℕ). u ++ (r .text ++ out)) o ∙ sym (append-assoc t (r .text) out) ∙ ap (λ (u : List ℕ). u ++ out) (sym v))
       (more piece rest buf j)
-    where
-      and-l : (a b : Bool) → (a && b) ≡ true → a ≡ true
-      and-l true b q = refl
-      and-l false b q = q
-
-      and-r : (a b : Bool) → (a && b) ≡ true → b ≡ true
-      and-r true b q = q
-      and-r false b q = absurd (true≢false (sym q))
 
   pub served-more : After (served x piece (length buf)) → Before
   served-more h = by-test (mayRun (g .next)) (λ e. some-behind e h) (λ e. none-behind e h)

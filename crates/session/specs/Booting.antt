@@ -22,9 +22,9 @@ led c [] = c
 led c (l ∷ ls) = led (turn c l .next) ls
 
 -- lines as one input
-unfoldable pub bytesOf : List (List ℕ) → List ℕ
-bytesOf [] = []
-bytesOf (l ∷ ls) = l ++ bytesOf ls
+unfoldable pub inputOf : List (List ℕ) → List ℕ
+inputOf [] = []
+inputOf (l ∷ ls) = l ++ inputOf ls
 
 -- A NEW SESSION THAT WAS FED THE SETTINGS, line by line up to the one that makes them whole, has written nothing and waits for its first B, with just these settings ..
 pub record Settles (s : Settings) : Type 0 where
@@ -32,7 +32,7 @@ pub record Settles (s : Settings) : Type 0 where
   pub rest : List (List ℕ)
   pub all : lines ++ rest ≡ settingLines s
   pub end : Session
-  pub calls : Feeds sessionStart (bytesOf lines) [] end
+  pub calls : Feeds sessionStart (inputOf lines) [] end
   pub waits : end .core .stage ≡ Waiting
   pub settings : end .core .settling .settings ≡ s
   -- .. and that it is led there, line by line
@@ -41,6 +41,6 @@ pub record Settles (s : Settings) : Type 0 where
 -- .. and a B after them gives it a running controller, at its start
 pub record Starts (s : Settings) (own : ℕ) (floor : RoundLabel) (lines : List (List ℕ)) : Type 0 where
   pub end : Session
-  pub calls : Feeds sessionStart (bytesOf (lines ++ (spellLine (s .numbers .group) (plain (Start own floor)) ∷ []))) [] end
+  pub calls : Feeds sessionStart (inputOf (lines ++ (spellLine (s .numbers .group) (plain (Start own floor)) ∷ []))) [] end
   pub runs : end .core .stage ≡ Running
   pub controller : end .core .controller ≡ startOf (s .numbers) own floor

@@ -82,8 +82,11 @@ unfoldable pub putText : Numbers → Controller → Sent → Verdict → Sent �
 putText s c second v Nothing = verdictText v
 putText s c second v (One head) = fitText s c head ++ restText s c v second
 
+abbrev pub answerPut : Numbers → Answer → List ℕ
+answerPut s a = putText s (a .next) (a .second) (a .verdict) (a .first)
+
 abbrev pub advances : Core → Answer → Turn
-advances c a = record { next = runningWith c (a .next); text = putText (numbersIn c) (a .next) (a .second) (a .verdict) (a .first) }
+advances c a = record { next = runningWith c (a .next); text = answerPut (numbersIn c) a }
 
 abbrev pub advancing : Core → Message → Turn
 advancing c a = advances c (advanced (numbersIn c) (c .controller) a)

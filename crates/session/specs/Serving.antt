@@ -27,7 +27,7 @@ use Rattle.session.specs.declared.run.Ran.{Ran}
 use Rattle.session.specs.declared.stage.Stage.{Stage}
 use Rattle.session.specs.declared.stage.Stage.the-variants.{Settling as AtSettings, Waiting, Running, Ended}
 use Rattle.session.specs.Turn.{numbersIn, runningWith}
-use Rattle.session.specs.Feeding.{advanced, putText, feedAt, fed, fedText}
+use Rattle.session.specs.Feeding.{advanced, answerPut, feedAt, fed, fedText}
 
 -- the change that a message makes, known where it is that one reading is added and nothing else
 abbrev pub AddedBy : Controller → Head → Change → Type 0
@@ -56,9 +56,6 @@ goesOn s input room = leb (2 * lineTop) room && (not (eqb (feedAt input) (length
 -- what it leads to
 abbrev pub lineAnswer : Numbers → Controller → List ℕ → Answer
 lineAnswer s k input = advanced s k (firstLine (s .group) input .line .message)
-
-abbrev pub answerPut : Numbers → Answer → List ℕ
-answerPut s a = putText s (a .next) (a .second) (a .verdict) (a .first)
 
 unfoldable pub runOn : ℕ → Numbers → Controller → List ℕ → ℕ → Run
 runOn zero s k input room = stays k

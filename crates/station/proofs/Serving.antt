@@ -1,10 +1,10 @@
 -- A call on the rest of a block leads on. Assumes nothing.
 use Prim.Native.Nat.{ℕ, zero, suc, _-_, _+_, _≤_}
 use native.Mathlib.Omega.{arith}
-use mathlib.Core.Path.{_≡_, refl, sym, ap, subst, _∙_}
+use mathlib.Core.Path.{_≡_, sym, ap, subst, _∙_}
 use mathlib.Core.List.{List, [], _∷_, _++_, append-nil}
 use lib.ListN.{length, take, drop, replicate, length-replicate}
-use lib.Seq.{drop-nil, drop-drop}
+use lib.Seq.{drop-nil, drop-drop, take-nil}
 use Rattle.lines.specs.Writing.{bufferOf}
 use Rattle.session.specs.declared.feed.Fed.{Fed}
 use Rattle.session.specs.declared.feed.Session.{Session}
@@ -16,10 +16,6 @@ use Rattle.station.specs.Serving.{Led}
 -- what is left of a block at a place
 abbrev pub left : List ℕ → ℕ → ℕ → List ℕ
 left block have at = take (have - at) (drop at block)
-
-take-nil : (n : ℕ) → _≡_ {A = List ℕ} (take n []) []
-take-nil zero = refl
-take-nil (suc n) = refl
 
 drop-take : (k n : ℕ) (l : List ℕ) → drop k (take n l) ≡ take (n - k) (drop k l)
 drop-take zero n l = let e : n ≡ n - 0 = omega arith in ap {B = List ℕ} (λ (j : ℕ). take j l) e
