@@ -1,4 +1,5 @@
 -- The laws of `message` that belong to no one function.
 pub mod Ranges
 pub mod Plain
+pub mod Views
 mod Lengths
