@@ -12,6 +12,7 @@ pub mod Running
 pub mod Adding
 pub mod Serving
 pub mod Whole
+pub mod Led
 pub mod Example
 pub mod Runs
 pub mod Verdicts

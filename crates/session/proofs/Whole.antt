@@ -23,6 +23,7 @@ use Rattle.session.specs.declared.feed.Session.{Session}
 use Rattle.session.specs.declared.stage.Core.{Core}
 use Rattle.session.specs.declared.stage.Stage.{Stage}
 use Rattle.session.specs.declared.stage.Stage.the-variants.{Settling as AtSettings, Waiting, Running, Ended}
+use Rattle.session.specs.Booting.{led, told}
 use Rattle.session.specs.Feeding.{carryTop, advancing, feedAt, lineTurn, holding, fed, fedText, unended, unendedLine, lastOf, lastTurn, finished, sessionStart}
 use Rattle.session.specs.Pieces.{Feeds, unfinished, lineAt, Stands}
 use Rattle.session.specs.Pieces.Feeds.{none, more}
@@ -45,10 +46,22 @@ start-stands = record { fits = start-fits; unended = refl; held = start-holds }
 pub line-turn : (x : Session) (p piece : List ℕ) → Stands x p → lineTurn x piece ≡ turn (x .core) (lineAt p piece)
 line-turn x p piece s = line-same (x .carry) p (take (feedAt piece + 1) piece) (s .held) advancing (x .core) (x .core .stage) ∙ same-turn (x .core) (lineAt p piece) (s .fits)
 
--- an input's answers, by its first line
-answers-on : (c : Core) (l : List ℕ) (ls : List (List ℕ)) → answers c (l ∷ ls) ≡ turn c l .text ++ answers (turn c l .next) ls
-unfolding answers
-answers-on c l ls = refl
+-- lines after lines
+pub led-on : (c : Core) (ls ms : List (List ℕ)) → led c (ls ++ ms) ≡ led (led c ls) ms
+unfolding led
+led-on c [] ms = refl
+led-on c (l ∷ ls) ms = led-on (turn c l .next) ls ms
+
+pub told-on : (c : Core) (ls ms : List (List ℕ)) → told c (ls ++ ms) ≡ told c ls ++ told (led c ls) ms
+unfolding led told
+told-on c [] ms = refl
+told-on c (l ∷ ls) ms = ap (λ (t : List ℕ). turn c l .text ++ t) (told-on (turn c l .next) ls ms) ∙ sym (append-assoc (turn c l .text) (told (turn c l .next) ls) (told (led (turn c l .next) ls) ms))
+
+-- the answers to lines are the texts of their turns, then the answers to the rest
+answers-on : (c : Core) (ls ms : List (List ℕ)) → answers c (ls ++ ms) ≡ told c ls ++ answers (led c ls) ms
+unfolding led told answers
+answers-on c [] ms = refl
+answers-on c (l ∷ ls) ms = ap (λ (t : List ℕ). turn c l .text ++ t) (answers-on (turn c l .next) ls ms) ∙ sym (append-assoc (turn c l .text) (told (turn c l .next) ls) (answers (led (turn c l .next) ls) ms))
 
 -- a line off the front, where the piece has its line feed
 module _ (p piece rest : List ℕ) (n : feedAt piece ≡ length piece → ⊥) where
@@ -72,25 +85,33 @@ module _ (p piece rest : List ℕ) (n : feedAt piece ≡ length piece → ⊥) w
   unfinished-off : unfinished (p ++ (piece ++ rest)) ≡ unfinished (later ++ rest)
   unfinished-off = ap unfinished feed-parts ∙ unfinished-feed (p ++ until lineFeed piece) (later ++ rest)
 
--- ONE CALL: the line so far after it, and what it wrote of the answers
+-- ONE CALL: the line so far after it, and the lines that it took in, one or none, with what it wrote
 record One (x : Session) (p piece : List ℕ) (r : Fed) (wrote : List ℕ) : Type 0 where
   pub now : List ℕ
   pub stands : Stands (r .next) now
-  pub said : (rest : List ℕ) → answers (x .core) (linesOf (p ++ (piece ++ rest))) ≡ wrote ++ answers (r .next .core) (linesOf (now ++ (drop (r .took) piece ++ rest)))
+  pub lines : List (List ℕ)
+  pub cut : (rest : List ℕ) → linesOf (p ++ (piece ++ rest)) ≡ lines ++ linesOf (now ++ (drop (r .took) piece ++ rest))
+  pub core : r .next .core ≡ led (x .core) lines
+  pub text : wrote ≡ told (x .core) lines
   pub left : (rest : List ℕ) → unfinished (p ++ (piece ++ rest)) ≡ unfinished (now ++ (drop (r .took) piece ++ rest))
 
 module _ (x : Session) (p piece : List ℕ) (s : Stands x p) where
   one-held : feedAt piece ≡ length piece → One x p piece (holding x piece) []
+  unfolding led told
   one-held e =
       record {
         now = p ++ piece;
         stands = record { fits = s .fits; unended = lacks-append lineFeed p piece (s .unended) (feed-none piece e); held = held-holds (x .carry) p piece (s .held) };
-        said = λ rest. rw (drop-length piece, append-assoc p piece rest);
+        lines = [];
+        cut = λ rest. rw (drop-length piece, append-assoc p piece rest);
+        core = refl;
+        text = refl;
         left = λ rest. rw (drop-length piece, append-assoc p piece rest);
       }
 
   one-refused : (v : Verdict) → One x p piece (record { next = x; took = 0; wrote = 0; verdict = v }) []
-  one-refused v = record { now = p; stands = s; said = λ rest. refl; left = λ rest. refl }
+  unfolding led told
+  one-refused v = record { now = p; stands = s; lines = []; cut = λ rest. refl; core = refl; text = refl; left = λ rest. refl }
 
   pub next-stands : Stands (record { core = lineTurn x piece .next; carry = record { len = 0; bytes = x .carry .bytes } }) []
   unfolding lacks
@@ -103,14 +124,15 @@ module _ (x : Session) (p piece : List ℕ) (s : Stands x p) where
 
   one-line : (v : Verdict) → (feedAt piece ≡ length piece → ⊥)
       → One x p piece (record { next = record { core = lineTurn x piece .next; carry = record { len = 0; bytes = x .carry .bytes } }; took = feedAt piece + 1; wrote = length (lineTurn x piece .text); verdict = v }) (lineTurn x piece .text)
+  unfolding led told
   one-line v n =
       record {
         now = [];
         stands = next-stands;
-        said = λ rest.
-            ap (answers (x .core)) (lines-off p piece rest n (s .unended))
-            ∙ answers-on (x .core) (lineAt p piece) (linesOf (drop (feedAt piece + 1) piece ++ rest))
-            ∙ ap {B = List ℕ} (λ (t : Turn). t .text ++ answers (t .next) (linesOf (drop (feedAt piece + 1) piece ++ rest))) (sym (line-turn x p piece s));
+        lines = lineAt p piece ∷ [];
+        cut = λ rest. lines-off p piece rest n (s .unended);
+        core = ap (λ (t : Turn). t .next) (line-turn x p piece s);
+        text = ap (λ (t : Turn). t .text) (line-turn x p piece s) ∙ sym (append-nil _);
         left = λ rest. unfinished-off p piece rest n;
       }
 
@@ -127,25 +149,35 @@ module _ (x : Session) (p piece : List ℕ) (s : Stands x p) where
           (λ l. rw (closed-none x (feedAt piece + 1) (lineTurn x piece) (length buf) l) (one-refused _))
           (λ l. rw (closed-room x (feedAt piece + 1) (lineTurn x piece) (length buf) l, front-take (lineTurn x piece .text) buf l) (one-line _ n)))
 
--- A RUN OF CALLS: the line so far after it, and the answers to all lines before
+-- A RUN OF CALLS: the line so far after it, and the lines before, each a turn, with all that was written
 pub record Ran (c : Core) (input out : List ℕ) (y : Session) : Type 0 where
   pub now : List ℕ
   pub stands : Stands y now
-  pub said : answers c (linesOf input) ≡ out ++ answers (y .core) (linesOf now)
+  pub lines : List (List ℕ)
+  pub cut : linesOf input ≡ lines ++ linesOf now
+  pub core : y .core ≡ led c lines
+  pub text : out ≡ told c lines
   pub left : unfinished input ≡ now
 
 pub run : {x y : Session} {input out : List ℕ} → Feeds x input out y → (p : List ℕ) → Stands x p → Ran (x .core) (p ++ input) out y
-run none p s = record { now = p; stands = s; said = rw (append-nil p); left = rw (append-nil p) (unfinished-all p (s .unended)) }
+unfolding led told
+run none p s = record { now = p; stands = s; lines = []; cut = rw (append-nil p); core = refl; text = refl; left = rw (append-nil p) (unfinished-all p (s .unended)) }
 run (more {x} {y} piece rest buf {out} f) p s =
     let o = one x p piece s buf in
     let r = run f (o .now) (o .stands) in
-    let w = take (fed x piece (length buf) .wrote) (bufferOf (fedText x piece) buf) in
     record {
       now = r .now;
       stands = r .stands;
-      said = o .said rest ∙ ap (λ (l : List ℕ). w ++ l) (r .said) ∙ sym (append-assoc w out (answers (y .core) (linesOf (r .now))));
+      lines = o .lines ++ r .lines;
+      cut = o .cut rest ∙ ap (λ (l : List (List ℕ)). o .lines ++ l) (r .cut) ∙ sym (append-assoc (o .lines) (r .lines) (linesOf (r .now)));
+      core = r .core ∙ ap (λ (c : Core). led c (r .lines)) (o .core) ∙ sym (led-on (x .core) (o .lines) (r .lines));
+      text = (λ i. o .text i ++ (r .text ∙ ap (λ (c : Core). told c (r .lines)) (o .core)) i) ∙ sym (told-on (x .core) (o .lines) (r .lines));
       left = o .left rest ∙ r .left;
     }
+
+-- the answers to all of an input: what was written, then the answers to the line so far
+ran-answers : (c : Core) (input out : List ℕ) (y : Session) → (r : Ran c input out y) → answers c (linesOf input) ≡ out ++ answers (y .core) (linesOf (r .now))
+ran-answers c input out y r = ap (answers c) (r .cut) ∙ answers-on c (r .lines) (linesOf (r .now)) ∙ sym (λ i. r .text i ++ answers (r .core i) (linesOf (r .now)))
 
 -- THE END OF THE INPUT
 -- a piece without a line feed is judged by what is held of it
@@ -203,7 +235,7 @@ finish-wrote y buf h =
 pub whole-from : {x y : Session} {input out : List ℕ} → Feeds x input out y → (p : List ℕ) → Stands x p → (buf : List ℕ) → lineTop ≤ length buf
     → out ++ take (finished y (length buf) .wrote) (bufferOf (lastTurn y .text) buf) ≡ answers (x .core) (linesOf (p ++ input))
 whole-from {x} {y} {input} {out} f p s buf h =
-    let r = run f p s in ap (λ (l : List ℕ). out ++ l) (finish-wrote y buf h ∙ sym (end-text y (r .now) (r .stands))) ∙ sym (r .said)
+    let r = run f p s in ap (λ (l : List ℕ). out ++ l) (finish-wrote y buf h ∙ sym (end-text y (r .now) (r .stands))) ∙ sym (ran-answers (x .core) (p ++ input) out y r)
 
 -- THE WHOLE INPUT in any pieces, with any buffers lent, then the end: exactly the station program's output
 pub whole : {input out : List ℕ} {y : Session} → Feeds sessionStart input out y → (buf : List ℕ) → lineTop ≤ length buf

@@ -21,6 +21,15 @@ unfoldable pub led : Core → List (List ℕ) → Core
 led c [] = c
 led c (l ∷ ls) = led (turn c l .next) ls
 
+-- .. and what it writes on the way: the texts of its turns, one after another
+unfoldable pub told : Core → List (List ℕ) → List ℕ
+told c [] = []
+told c (l ∷ ls) = turn c l .text ++ told (turn c l .next) ls
+
+-- a session that has gone just by the turns of these lines, and wrote just their texts
+abbrev pub LedTo : List ℕ → List (List ℕ) → Session → Type 0
+LedTo out ls y = (y .core ≡ led coreStart ls) × (out ≡ told coreStart ls)
+
 -- lines as one input
 unfoldable pub inputOf : List (List ℕ) → List ℕ
 inputOf [] = []
