@@ -24,6 +24,7 @@ use Rattle.vote.specs.Digest.{legal, rank, unrank}
 use Rattle.vote.specs.Vote.{total, count, missing, Wins, Decides, Answers, Names, ballotOf, allBallots, ballots, rankOf, votesFit}
 use Rattle.vote.specs.Decision.{ranksOf, strengths, largest, missingOf, heldOff, rivalOf, settledAt, settled, decision, strongestAt, winning}
 use Rattle.vote.proofs.Order.{same-dec, unrank-rank, rank-below}
+use Rattle.vote.proofs.Lexicographic.{lex-rank}
 use Rattle.vote.proofs.Counting.{all-voted, as-it-is}
 use Rattle.vote.proofs.Facts.{round, all-legal, group-legal, same-count, more-missing, seats-seven}
 use Rattle.vote.proofs.Exact.{Safe, wins-unique, safe-decides, decided-safe}
@@ -118,7 +119,14 @@ module _ (v : Votes) (fit : votesFit v ≡ true) where
         (λ c. (omega arith, λ q. absurd (omega arith)))
 
     won : Wins (ballots v) d
-    won = record { voted = omega (arith, same-count v fit d); most = λ e. compared e .0; largest = λ e. compared e .1 }
+    won =
+        record {
+          voted = omega (arith, same-count v fit d);
+          most = λ e. compared e .0;
+          largest = λ e q x.
+              let c : 1 ≤ count e (allBallots v) = omega (arith, same-count v fit d, same-count v fit e) in
+              omega (arith, compared e .1 q, lex-rank (v .group .m) (v .label) (round v fit) d e (all-voted _ (allBallots v) (all-legal v fit) d k) (all-voted _ (allBallots v) (all-legal v fit) e c) x);
+        }
 
     won-something : Names v (strongestAt (largest (strengths ranks)))
     unfolding strongestAt pick

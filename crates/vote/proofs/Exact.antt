@@ -13,6 +13,7 @@ use Rattle.vote.specs.declared.votes.Ballot.{Ballot}
 use Rattle.vote.specs.Digest.{legal, rank}
 use Rattle.vote.specs.Vote.{count, missing, Wins, Completes, DecidedFor}
 use Rattle.vote.proofs.Order.{Round, same-dec, rank-injective, rank-below}
+use Rattle.vote.proofs.Lexicographic.{lex-rank, not-larger}
 use Rattle.vote.proofs.Counting.{All, all-voted, as-it-is, grows, bounded, voted-from, fill, fill-completes, fill-count, fill-other}
 
 -- e with k votes more stays behind d
@@ -29,8 +30,9 @@ module _ (m : ℕ) (label : RoundLabel) (w : Round m label) (s : List Ballot) (o
   pub wins-unique : (d e : Digest) → Wins s d → Wins s e → d ≡ e
   wins-unique d e p q =
       let c : count e s ≡ count d s = omega (arith, p .most e, q .most d) in
-      rank-injective m label w d e (all-voted _ s ok d (p .voted)) (all-voted _ s ok e (q .voted))
-      (le-antisymm (q .largest d (sym c)) (p .largest e c))
+      let a = all-voted _ s ok d (p .voted) in
+      let b = all-voted _ s ok e (q .voted) in
+      rank-injective m label w d e a b (le-antisymm (not-larger m label w e d b a (q .largest d (sym c))) (not-larger m label w d e a b (p .largest e c)))
 
   module _ (d : Digest) where
     legal-after : (t : List Ballot) → Completes m label s t → (e : Digest) → 1 ≤ count e t → legal m label e ≡ true
@@ -52,7 +54,12 @@ module _ (m : ℕ) (label : RoundLabel) (w : Round m label) (s : List Ballot) (o
 
     pub safe-decides : Safe m label s (missing s) d → DecidedFor m label s d
     safe-decides h t r =
-        record { voted = omega (arith, h .voted, grows m label d r); most = λ e. leads h t r e .0; largest = λ e. leads h t r e .1 }
+        let k : 1 ≤ count d t = omega (arith, h .voted, grows m label d r) in
+        record {
+          voted = k;
+          most = λ e. leads h t r e .0;
+          largest = λ e q x. omega (arith, leads h t r e .1 q, lex-rank m label w d e (legal-after t r d k) (legal-after t r e (omega arith)) x);
+        }
 
     -- the completion in which all the missing ones vote e
     against : DecidedFor m label s d → (e : Digest) → legal m label e ≡ true → (e ≡ d → ⊥) → Trails s (missing s) d e
@@ -64,7 +71,7 @@ module _ (m : ℕ) (label : RoundLabel) (w : Round m label) (s : List Ballot) (o
         let re = rank-below m label w e le in
         by-cases (decLt (count e s + missing s) (count d s)) (λ x. omega arith)
         (λ x. by-cases (decLt (rank e) (rank d)) (λ y. omega (arith, v .most e))
-        (λ y. absurd (n (rank-injective m label w e d le ld (le-antisymm (v .largest e (omega (arith, v .most e))) (omega arith))))))
+        (λ y. absurd (n (rank-injective m label w e d le ld (le-antisymm (not-larger m label w d e ld le (v .largest e (omega (arith, v .most e)))) (omega arith))))))
 
     pub decided-safe : DecidedFor m label s d → Safe m label s (missing s) d
     decided-safe h = record { voted = h s (as-it-is m label s) .voted; behind = against h }

@@ -1,5 +1,5 @@
--- The order is the one that document 01 names: the number of measurements, then the state label, then the mask as a number. Assumes nothing.
-use Prim.Native.Nat.{ℕ, _<_}
+-- Ranks are in document 01's order, `Lex` of specs/Digest: the number of measurements, then the state label, then the mask as a number. Assumes nothing.
+use Prim.Native.Nat.{ℕ, _≤_, _<_}
 use native.Mathlib.Omega.{arith}
 use native.Mathlib.Decide.{decLt}
 use mathlib.Core.Logic.{_⊎_, inl, inr, ⊎-elim, by-cases}
@@ -8,14 +8,8 @@ use mathlib.Core.Bool.{true}
 use lib.Count.{ones}
 use Rattle.units.specs.declared.labels.RoundLabel.{RoundLabel}
 use Rattle.vote.specs.declared.digest.Digest.{Digest}
-use Rattle.vote.specs.Digest.{legal, rank}
+use Rattle.vote.specs.Digest.{legal, Lex, rank}
 use Rattle.vote.proofs.Order.{Round, legal-facts, mask-small, digest-path}
-
--- e is larger than d
-abbrev pub Lex : Digest → Digest → Type 0
-Lex d e =
-    (ones (d .mask) < ones (e .mask))
-    ⊎ ((ones (d .mask) ≡ ones (e .mask)) × ((d .state .0 < e .state .0) ⊎ ((d .state .0 ≡ e .state .0) × (d .mask < e .mask))))
 
 module _ (m : ℕ) (label : RoundLabel) (w : Round m label) where
   pub lex-rank : (d e : Digest) → legal m label d ≡ true → legal m label e ≡ true → Lex d e → rank d < rank e
@@ -46,3 +40,7 @@ module _ (m : ℕ) (label : RoundLabel) (w : Round m label) where
                   (λ l. absurd (omega (arith, ap rank (digest-path d e (omega arith) (omega arith)))))),
             ))),
       )))
+
+  -- what is not larger has no higher rank
+  pub not-larger : (d e : Digest) → legal m label d ≡ true → legal m label e ≡ true → (Lex d e → ⊥) → rank e ≤ rank d
+  not-larger d e p q n = by-cases (decLt (rank d) (rank e)) (λ x. absurd (n (rank-lex d e p q x))) (λ x. omega arith)

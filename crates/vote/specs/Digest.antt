@@ -1,5 +1,7 @@
 -- Digests of one label: which are legal, when two are the same, and their order.
-use Prim.Native.Nat.{ℕ, _+_, _*_, _-_, _/_, _%_, _^_}
+use Prim.Native.Nat.{ℕ, _+_, _*_, _-_, _/_, _%_, _^_, _<_}
+use mathlib.Core.Logic.{_⊎_}
+use mathlib.Core.Path.{_≡_}
 use mathlib.Core.Bool.{Bool, _&&_}
 use lib.Count.{ones}
 use lib.Dec.{leb, eqb}
@@ -16,8 +18,14 @@ legal m label d = leb m runsTop && maskFits m (d .mask) && before (d .state) lab
 unfoldable pub same : Digest → Digest → Bool
 same d e = eqb (d .mask) (e .mask) && eqb (d .state .0) (e .state .0)
 
--- THE ORDER. "Digests of one label are ordered by the number of measurements, then state label, then mask as a number": the digits of one number.
--- Everything above this definition goes by the laws of proofs/Order.antt alone, which has the proof that it is that order.
+-- THE ORDER: e is larger than d. "Digests of one label are ordered by the number of measurements, then state label, then mask as a number"
+abbrev pub Lex : Digest → Digest → Type 0
+Lex d e =
+    (ones (d .mask) < ones (e .mask))
+    ⊎ ((ones (d .mask) ≡ ones (e .mask)) × ((d .state .0 < e .state .0) ⊎ ((d .state .0 ≡ e .state .0) × (d .mask < e .mask))))
+
+-- the same order as the digits of one number, for the code: `lex-rank` and `rank-lex` of proofs/Lexicographic.antt, for legal digests of one label.
+-- Everything above this definition goes by those and by the laws of proofs/Order.antt alone.
 unfoldable pub rank : Digest → ℕ
 rank d = ones (d .mask) * 2 ^ 48 + d .state .0 * 2 ^ 16 + d .mask
 

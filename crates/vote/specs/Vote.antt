@@ -21,7 +21,7 @@ use Rattle.vote.specs.declared.judge.Decision.{Decision}
 use Rattle.vote.specs.declared.judge.Decision.the-variants.{Undecided, Decided, Refused}
 use Rattle.vote.specs.declared.judge.Poll.{Poll}
 use Rattle.vote.specs.declared.judge.Poll.the-variants.{Nobody, Won, Refused as Denied}
-use Rattle.vote.specs.Digest.{legal, same, rank}
+use Rattle.vote.specs.Digest.{legal, same, Lex, rank}
 
 abbrev pub bit : Bool → ℕ
 bit true = 1
@@ -51,7 +51,7 @@ missing s = total gap s
 pub record Wins (s : List Ballot) (d : Digest) : Type 0 where
   pub voted : 1 ≤ count d s
   pub most : (e : Digest) → count e s ≤ count d s
-  pub largest : (e : Digest) → count e s ≡ count d s → rank e ≤ rank d
+  pub largest : (e : Digest) → count e s ≡ count d s → Lex d e → ⊥
 
 -- "A completion gives each missing controller either no vote or any digest legal for the label"
 pub data Completes (m : ℕ) (label : RoundLabel) : List Ballot → List Ballot → Type 0 where
