@@ -1,7 +1,8 @@
 //! Writes an input for measuring the speed of `station`, of about a million lines.
 //!
 //! `gen MIX [LINES [CONTROLLERS [RUNS]]]`, where MIX is `m` (readings alone), `rounds` (whole rounds,
-//! each to its S) or `u` (states handed in and asked for). The own number is 0. No line is refused.
+//! each to its S), `u` (states handed in and asked for) or `mixed` (rounds, in every second of which all
+//! readings are M, and one line in ten is refused). The own number is 0. But for `mixed` no line is refused.
 
 #[allow(dead_code)]
 #[path = "../random.rs"]
@@ -10,6 +11,8 @@ mod random;
 use random::Random;
 use std::io::{self, BufWriter, Write};
 use std::process::ExitCode;
+
+const MIXES: [&str; 4] = ["m", "rounds", "u", "mixed"];
 
 struct Plan {
     mix: String,
@@ -22,6 +25,9 @@ struct Plan {
 struct Input<W: Write> {
     to: W,
     lines: u64,
+    /// The label whose lines are written, and whether refused ones come between them.
+    label: u64,
+    refused: bool,
     random: Random,
     controllers: u64,
     runs: u64,
@@ -30,7 +36,26 @@ struct Input<W: Write> {
 impl<W: Write> Input<W> {
     fn line(&mut self, line: &str) -> io::Result<()> {
         self.lines += 1;
-        writeln!(self.to, "{line}")
+        writeln!(self.to, "{line}")?;
+        if self.refused && self.lines % 10 == 9 {
+            let line = self.refused_line(self.lines / 10);
+            self.line(&line)?;
+        }
+        Ok(())
+    }
+
+    /// A line that is refused in every phase, by turns with 3 to 8 and 10.
+    fn refused_line(&self, turn: u64) -> String {
+        let label = self.label;
+        match turn % 7 {
+            0 => format!("Z\t{label}\t0\t200000"),
+            1 => format!("M\t{label}\t0"),
+            2 => format!("M\t0{label}\t0\t200000"),
+            3 => format!("M\t{label}\t0\t1000001"),
+            4 => format!("Q\t0\t{label}\t0001"),
+            5 => format!("M\t{}\t0\t200000", label - 1),
+            _ => format!("E\t{}", label + 1),
+        }
     }
 
     fn settings(&mut self) -> io::Result<()> {
@@ -69,6 +94,11 @@ impl<W: Write> Input<W> {
         if self.controllers > 1 {
             self.answers(label, last)?;
         }
+        self.ballot(label)
+    }
+
+    /// The end of a round: collecting ends, the floor is stored, the vote is decided.
+    fn ballot(&mut self, label: u64) -> io::Result<()> {
         self.line(&format!("E\t{label}"))?;
         self.line(&format!("F\t{label}"))?;
         self.votes(label)
@@ -117,16 +147,19 @@ impl<W: Write> Input<W> {
 fn write_all(plan: &Plan) -> io::Result<()> {
     let to = BufWriter::with_capacity(1 << 16, io::stdout().lock());
     let (controllers, runs) = (plan.controllers, plan.runs);
-    let mut input = Input { to, lines: 0, random: Random::new(1, 0), controllers, runs };
+    let mut input = Input { to, lines: 0, label: 0, refused: false, random: Random::new(1, 0), controllers, runs };
     input.settings()?;
+    input.refused = plan.mix == "mixed";
     for label in 1.. {
         if input.lines >= plan.lines {
             break;
         }
+        input.label = label;
         match plan.mix.as_str() {
             "m" => input.readings(label)?,
-            "rounds" => input.round(label)?,
-            _ => input.states(label)?,
+            "u" => input.states(label)?,
+            "mixed" if label % 2 == 0 => input.readings(label).and_then(|()| input.ballot(label))?,
+            _ => input.round(label)?,
         }
     }
     input.to.flush()
@@ -134,7 +167,7 @@ fn write_all(plan: &Plan) -> io::Result<()> {
 
 fn plan() -> Option<Plan> {
     let mut arguments = std::env::args().skip(1);
-    let mix = arguments.next().filter(|mix| ["m", "rounds", "u"].contains(&mix.as_str()))?;
+    let mix = arguments.next().filter(|mix| MIXES.contains(&mix.as_str()))?;
     let mut number = |default: u64| arguments.next().map_or(Some(default), |text| text.parse().ok());
     let (lines, controllers, runs) = (number(1_000_000)?, number(5)?, number(6)?);
     let good = (1..=7).contains(&controllers) && (1..=16).contains(&runs) && (mix != "u" || controllers > 1);
@@ -143,7 +176,7 @@ fn plan() -> Option<Plan> {
 
 fn main() -> ExitCode {
     let Some(plan) = plan() else {
-        eprintln!("gen m|rounds|u [LINES [CONTROLLERS [RUNS]]]");
+        eprintln!("gen {} [LINES [CONTROLLERS [RUNS]]]", MIXES.join("|"));
         return ExitCode::from(2);
     };
     match write_all(&plan) {

@@ -75,24 +75,28 @@ impl Cutter {
     }
 }
 
-/// Serves the input to its end, or to refused settings.
-fn serve(station: Station, input: &mut impl Read, output: &mut impl Write) -> io::Result<()> {
+/// Serves the input to its end, or to refused settings, or says which end failed.
+fn serve(station: Station, input: &mut impl Read, output: &mut impl Write) -> Result<(), &'static str> {
     let mut cutter = Cutter::new(station);
     let mut block = vec![0; BLOCK];
     while cutter.station.refused.is_none() {
         match input.read(&mut block) {
-            Ok(0) => return cutter.take_end(output),
-            Ok(length) => cutter.take_block(&block[..length], output)?,
+            Ok(0) => return cutter.take_end(output).map_err(|_| "output failed"),
+            Ok(length) => cutter.take_block(&block[..length], output).map_err(|_| "output failed")?,
             Err(e) if e.kind() == io::ErrorKind::Interrupted => {}
-            Err(e) => return Err(e),
+            Err(_) => return Err("input failed"),
         }
     }
     Ok(())
 }
 
+/// After a failure nothing more is read or written; the status is 0 as that of the first program, which has no other.
 fn run(decide: vote::Decide) -> ExitCode {
     let served = serve(Station::new(decide), &mut io::stdin().lock(), &mut io::stdout().lock());
-    ExitCode::from(u8::from(served.is_err()))
+    if let Err(failure) = served {
+        eprintln!("station: {failure}");
+    }
+    ExitCode::SUCCESS
 }
 
 #[cfg(wrong)]
