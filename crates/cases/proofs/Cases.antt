@@ -17,7 +17,7 @@ use Rattle.vote.specs.Vote.{Answers, seatFits, seatsFit, votesFit}
 use Rattle.vote.specs.Decision.{tallyOf, strengthOf, largest, otherThan, outsider, missingOf, heldOff, rivalOf, settledAt, settled, decision}
 use Rattle.vote.proofs.Order.{same-true}
 use Rattle.vote.proofs.Answer.{decision-exact}
-use Rattle.floats.specs.Bits.{whole, bitsOf, sameFloat}
+use Rattle.floats.specs.Bits.{ofWhole, bitsOf, sameFloat}
 use Rattle.floats.specs.Ranges.{sameEstimate}
 use Rattle.floats.proofs.Limits.{same-is}
 use Rattle.floats.proofs.Places.{same-estimate-is}
@@ -38,7 +38,7 @@ sameDecision (Decided d) Undecided = false
 sameDecision (Decided d) (Decided e) = same d e
 
 measures : RunCase → Part → Bool
-measures c (chosen z) = sameFloat (measured (c .raw) (c .factor)) (whole z)
+measures c (chosen z) = sameFloat (measured (c .raw) (c .factor)) (ofWhole z)
 measures c left = true
 
 leaves : RunCase → Bool
@@ -68,7 +68,7 @@ same-decision (Decided d) (Decided e) h = ap Decided (same-true d e h)
 
 measures-is : (c : RunCase) (p : Part) → measures c p ≡ true → Measures c p
 unfolding measures
-measures-is c (chosen z) h = same-is (measured (c .raw) (c .factor)) (whole z) h
+measures-is c (chosen z) h = same-is (measured (c .raw) (c .factor)) (ofWhole z) h
 measures-is c left h = tt
 
 leaves-number : (c : RunCase) → leaves c ≡ true → carried c ≡ numbered (c .newX) (c .newVariance)

@@ -7,7 +7,7 @@ use Rattle.units.specs.declared.labels.RoundLabel.{RoundLabel}
 use Rattle.units.specs.declared.labels.StateLabel.{StateLabel}
 use Rattle.units.specs.declared.estimate.Estimate.{Estimate}
 use Rattle.units.specs.declared.settings.Numbers.{Numbers}
-use Rattle.floats.specs.Bits.{whole, nought}
+use Rattle.floats.specs.Bits.{ofWhole, nought}
 use Rattle.floats.specs.Ranges.{blank}
 use Rattle.filter.specs.declared.compute.Computed.{Computed}
 
@@ -21,7 +21,7 @@ settings = record { group = record { g = 2; m = 2 }; q = 1; r = 300; p = 99; fac
 
 -- "each x = +0 and P = p"
 abbrev pub first : Estimate
-first = record { x = nought; variance = whole 99 }
+first = record { x = nought; variance = ofWhole 99 }
 
 abbrev pub start : List Estimate
 start = two first first blank

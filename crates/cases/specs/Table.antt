@@ -6,7 +6,7 @@ use mathlib.Core.List.{List, [], _∷_, _++_, map}
 use lib.ListN.{length, take, replicate}
 use lib.Ieee.{binary64, ofBits}
 use Rattle.units.specs.declared.estimate.Estimate.{Estimate}
-use Rattle.floats.specs.Bits.{whole}
+use Rattle.floats.specs.Bits.{ofWhole}
 use Rattle.filter.specs.Run.{measured, outcome, after}
 use Rattle.vote.specs.declared.digest.Digest.{Digest}
 use Rattle.vote.specs.declared.votes.Ballot.{Ballot}
@@ -69,7 +69,7 @@ isChosen (chosen z) = true
 isChosen left = false
 
 abbrev pub numbered : ℕ → ℕ → Estimate
-numbered x variance = record { x = whole x; variance = whole variance }
+numbered x variance = record { x = ofWhole x; variance = ofWhole variance }
 
 abbrev pub spelt : ℕ → ℕ → Estimate
 spelt x variance = record { x = ofBits binary64 x; variance = ofBits binary64 variance }
@@ -82,7 +82,7 @@ carried c =
 
 -- the reading of a chosen run is measured as its z
 abbrev pub Measures : RunCase → Part → Type 0
-Measures c (chosen z) = measured (c .raw) (c .factor) ≡ whole z
+Measures c (chosen z) = measured (c .raw) (c .factor) ≡ ofWhole z
 Measures c left = Unit {0}
 
 -- ---- every case

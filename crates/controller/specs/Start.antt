@@ -13,7 +13,7 @@ use Rattle.units.specs.Labels.{floorFits}
 use Rattle.units.specs.Limits.{runsTop, controllersTop}
 use Rattle.units.specs.Pick.{pick}
 use Rattle.units.specs.Settings.{numbersFit}
-use Rattle.floats.specs.Bits.{whole, nought}
+use Rattle.floats.specs.Bits.{ofWhole, nought}
 use Rattle.floats.specs.Ranges.{blank}
 use Rattle.filter.specs.Step.{tab}
 use Rattle.plan.specs.declared.brief.Phase.the-variants.{Idle}
@@ -23,7 +23,7 @@ use Rattle.controller.specs.State.{nobody}
 
 -- a place that is no run is blank
 abbrev pub startAt : Bool → ℕ → Estimate
-startAt true p = record { x = nought; variance = whole p }
+startAt true p = record { x = nought; variance = ofWhole p }
 startAt false p = blank
 
 unfoldable pub startEstimates : ℕ → ℕ → List Estimate

@@ -7,7 +7,7 @@ use Rattle.units.specs.declared.settings.Numbers.{Numbers}
 use Rattle.units.specs.Labels.{floorFits, stateLabelFits}
 use Rattle.units.specs.Limits.{controllersTop, runsTop, labelTop, rawTop, xTop, varianceTop, targetTop}
 use Rattle.units.specs.Mask.{maskEnd}
-use Rattle.floats.specs.Bits.{whole}
+use Rattle.floats.specs.Bits.{ofWhole}
 use Rattle.floats.specs.Ranges.{stateFits}
 use Rattle.vote.specs.declared.votes.Ballot.{Ballot}
 use Rattle.vote.specs.declared.votes.Ballot.the-variants.{Missing, Cast}
@@ -24,7 +24,7 @@ use Rattle.controller.specs.declared.state.Tops.{Tops}
 
 -- "the limits of labels, runs and floats as its constants"
 abbrev pub tops : Tops
-tops = record { controllers = controllersTop; runs = runsTop; label = labelTop; raw = rawTop; x = whole xTop; variance = whole varianceTop; target = whole targetTop }
+tops = record { controllers = controllersTop; runs = runsTop; label = labelTop; raw = rawTop; x = ofWhole xTop; variance = ofWhole varianceTop; target = ofWhole targetTop }
 
 abbrev pub briefOf : Controller → Brief
 briefOf c = record { own = c .own; phase = c .phase; label = c .label; state = c .state; held = c .held }

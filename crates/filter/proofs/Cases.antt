@@ -2,7 +2,7 @@
 use mathlib.Core.Path.{_≡_, refl, sym, _∙_, ap}
 use mathlib.Core.Bool.{Bool, true, false, cond, _&&_}
 use lib.Ieee.{Float, binary64, ofBits, ofInt, lt, le}
-use Rattle.floats.specs.Bits.{whole, nought}
+use Rattle.floats.specs.Bits.{ofWhole, nought}
 use Rattle.filter.specs.Run.{limited, atMost}
 
 module _ (top v : Float) where
@@ -36,6 +36,6 @@ and-false-r true b p = p
 and-false-r false b p = refl
 
 -- the code's literal 1.0
-pub one-is : ofBits binary64 0x3ff0_0000_0000_0000 ≡ whole 1
+pub one-is : ofBits binary64 0x3ff0_0000_0000_0000 ≡ ofWhole 1
 unfolding ofBits ofInt
 one-is = refl

@@ -12,7 +12,7 @@ use lib.Ieee.Exact.{HasValue, odd-sign}
 use lib.Ieee.Back.{round-whole}
 use lib.Ieee.Bits.{is-true, ofBits-fits}
 use lib.Ieee.Order.{round-mono}
-use Rattle.floats.specs.Bits.{whole, nought}
+use Rattle.floats.specs.Bits.{ofWhole, nought}
 use Rattle.floats.specs.Ranges.{upTo}
 use Rattle.floats.proofs.Encoding.{whole-value}
 use Rattle.floats.proofs.Limits.{range-fits, nought-range, true-T}
@@ -107,8 +107,8 @@ round-within a c n C N h =
     (round-mono binary64 a c n 1 C (lit< tt) (le-trans (le-of-eq (mul-one a)) h))
 
 -- ---- a whole number, and what is limited by one
-whole-within : (n : ℕ) → n ≤ 2 ^ 53 → T (within n (whole n))
-whole-within n h = within-of-value (whole n) n (whole-value n h)
+whole-within : (n : ℕ) → n ≤ 2 ^ 53 → T (within n (ofWhole n))
+whole-within n h = within-of-value (ofWhole n) n (whole-value n h)
 
 above-nought : (v : Float) → T (lt nought v) → T (plus v)
 unfolding lt ofBits
@@ -117,11 +117,11 @@ above-nought (inf s) h = h
 above-nought (fin true m e) h = absurd h
 above-nought (fin false m e) h = tt
 
-limited-within : (n : ℕ) → n ≤ 2 ^ 53 → (v : Float) → T (within n (limited (whole n) v))
+limited-within : (n : ℕ) → n ≤ 2 ^ 53 → (v : Float) → T (within n (limited (ofWhole n) v))
 unfolding limited
-limited-within n h v = go (lt nought v && le v (whole n)) (lt (whole n) v) (λ t. le-within v (whole n) n (whole-value n h) (above-nought v (and-l (lt nought v) (le v (whole n)) t)) (and-r (lt nought v) (le v (whole n)) t))
+limited-within n h v = go (lt nought v && le v (ofWhole n)) (lt (ofWhole n) v) (λ t. le-within v (ofWhole n) n (whole-value n h) (above-nought v (and-l (lt nought v) (le v (ofWhole n)) t)) (and-r (lt nought v) (le v (ofWhole n)) t))
   where
-    go : (b c : Bool) → (T b → T (within n v)) → T (within n (cond b v (cond c (whole n) nought)))
+    go : (b c : Bool) → (T b → T (within n v)) → T (within n (cond b v (cond c (ofWhole n) nought)))
     go true c f = f tt
     go false true f = whole-within n h
     go false false f = nought-within n
@@ -203,15 +203,15 @@ limited-fits top v p q = cond-fits binary64 (lt nought v && le v top) v (cond (l
 
 target-fits : (t : Float) (w sum : ℕ) → T (fits binary64 t) → T (fits binary64 (target t w sum))
 unfolding target atMost
-target-fits t w sum f = cond-fits binary64 (lt t (div binary64 (mul binary64 t (whole w)) (whole sum))) t (div binary64 (mul binary64 t (whole w)) (whole sum)) f (div-fits binary64 (mul binary64 t (whole w)) (whole sum))
+target-fits t w sum f = cond-fits binary64 (lt t (div binary64 (mul binary64 t (ofWhole w)) (ofWhole sum))) t (div binary64 (mul binary64 t (ofWhole w)) (ofWhole sum)) f (div-fits binary64 (mul binary64 t (ofWhole w)) (ofWhole sum))
 
 -- each target of a total in +0 .. k is in +0 .. k, where the sum of the weights is not 0
 target-within : (k : ℕ) (t : Float) (w sum : ℕ) → w ≤ 2 ^ 53 → sum ≤ 2 ^ 53 → 0 < sum → T (within k t) → T (within k (target t w sum))
 unfolding target atMost
-target-within k t w sum W S P h = go (lt t q) (λ z. not-above k t q h (div-plus (mul binary64 t (whole w)) (whole sum) sum (mul-plus k t (whole w) w h (whole-value w W)) P (whole-value sum S)) z)
+target-within k t w sum W S P h = go (lt t q) (λ z. not-above k t q h (div-plus (mul binary64 t (ofWhole w)) (ofWhole sum) sum (mul-plus k t (ofWhole w) w h (whole-value w W)) P (whole-value sum S)) z)
   where
     q : Float
-    q = div binary64 (mul binary64 t (whole w)) (whole sum)
+    q = div binary64 (mul binary64 t (ofWhole w)) (ofWhole sum)
 
     go : (b : Bool) → (T (not b) → T (within k q)) → T (within k (cond b t q))
     go true f = h
@@ -225,11 +225,11 @@ pub add-range : (a b : ℕ) (x y : Float) → a + b ≤ 2 ^ 53 → upTo a x ≡ 
 add-range a b x y N p q = into (a + b) (add binary64 x y) (add-fits binary64 x y) (add-within a b x y N (out a x p) (out b y q))
 
 -- whatever is held within a limit is in range
-pub limited-range : (n : ℕ) (v : Float) → n ≤ 2 ^ 53 → T (fits binary64 v) → upTo n (limited (whole n) v) ≡ true
-limited-range n v N f = into n (limited (whole n) v) held (limited-within n N v)
+pub limited-range : (n : ℕ) (v : Float) → n ≤ 2 ^ 53 → T (fits binary64 v) → upTo n (limited (ofWhole n) v) ≡ true
+limited-range n v N f = into n (limited (ofWhole n) v) held (limited-within n N v)
   where
-    held : T (fits binary64 (limited (whole n) v))
-    held = limited-fits (whole n) v (ofInt-fits binary64 (pos n)) f
+    held : T (fits binary64 (limited (ofWhole n) v))
+    held = limited-fits (ofWhole n) v (ofInt-fits binary64 (pos n)) f
 
 -- each target of a total in range is in range, where the sum of the weights is not 0
 pub target-range : (k : ℕ) (t : Float) (w sum : ℕ) → w ≤ 2 ^ 53 → sum ≤ 2 ^ 53 → 0 < sum → upTo k t ≡ true → upTo k (target t w sum) ≡ true

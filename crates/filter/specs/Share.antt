@@ -8,7 +8,7 @@ use lib.Ieee.{Float, binary64, add, mul, div}
 use Rattle.units.specs.declared.estimate.Estimate.{Estimate}
 use Rattle.units.specs.declared.settings.Numbers.{Numbers}
 use Rattle.units.specs.Limits.{runsTop}
-use Rattle.floats.specs.Bits.{whole, nought}
+use Rattle.floats.specs.Bits.{ofWhole, nought}
 use Rattle.filter.specs.Run.{atMost}
 use Rattle.filter.specs.Step.{tab}
 
@@ -32,7 +32,7 @@ weightSum m weights = sumOf (take m weights)
 
 unfoldable pub target : Float → ℕ → ℕ → Float
 unfolding atMost
-target t weight sum = atMost t (div binary64 (mul binary64 t (whole weight)) (whole sum))
+target t weight sum = atMost t (div binary64 (mul binary64 t (ofWhole weight)) (ofWhole sum))
 
 -- a run's target; a place that is no run has +0
 unfoldable pub share : Bool → Float → ℕ → ℕ → Float

@@ -1,12 +1,12 @@
 // Whole products as floats, and floats held within a limit.
 ghost use mathlib.Core.Path.{_≡_};
 ghost use Prim.Native.Nat.{_*_};
-ghost use Rattle.floats.specs.Bits.{whole};
+ghost use Rattle.floats.specs.Bits.{ofWhole};
 ghost use Rattle.filter.specs.Run.{atMost, limited};
 
 // a × b as a float.
 pub fn product(a: u32, b: u32) -> f64
-    ensures { λ r. ⌜ r ≡ whole (a * b) ⌝ }
+    ensures { λ r. ⌜ r ≡ ofWhole (a * b) ⌝ }
 {
     std::num::nearest_u64_to_f64((a as u64) * (b as u64))
 }

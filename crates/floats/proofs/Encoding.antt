@@ -16,7 +16,7 @@ use lib.Ieee.Back.{round-whole}
 use lib.Ieee.Nearest.{div-mono, div-same}
 use lib.Ieee.Bits.{ofBits-toBits, is-true}
 use borrow.Author.Tests.{lt-leb}
-use Rattle.floats.specs.Bits.{whole}
+use Rattle.floats.specs.Bits.{ofWhole}
 use Rattle.floats.specs.Ranges.{upTo}
 
 -- the bits of a magnitude of n smallest values
@@ -77,7 +77,7 @@ unique x y a c C p q h k =
     sym (ofBits-toBits binary64 x p) ∙ ap (ofBits binary64) (val-bits x a c C h ∙ sym (val-bits y a c C k)) ∙ ofBits-toBits binary64 y q
 
 -- a whole number is exact up to 2 ^ 53
-pub whole-value : (n : ℕ) → n ≤ 2 ^ 53 → HasValue (whole n) false n 1
+pub whole-value : (n : ℕ) → n ≤ 2 ^ 53 → HasValue (ofWhole n) false n 1
 unfolding ofInt
 whole-value n h = round-whole binary64 false n h
 
@@ -107,9 +107,9 @@ neg-high : (m : ℕ) (e : ℤ) → 0x7ff0_0000_0000_0000 ≤ toBits binary64 (fi
 unfolding toBits
 neg-high m e = big ((size (mag m e) - 53) * 4503599627370496) (mag m e / 2 ^ (size (mag m e) - 53))
 
-module _ (n L : ℕ) (N : n ≤ 2 ^ 53) (at : toBits binary64 (whole n) ≡ L) (small : L < 0x7ff0_0000_0000_0000) where
+module _ (n L : ℕ) (N : n ≤ 2 ^ 53) (at : toBits binary64 (ofWhole n) ≡ L) (small : L < 0x7ff0_0000_0000_0000) where
   limit-enc : enc (n * 2 ^ 1074) ≡ L
-  limit-enc = sym (val-bits (whole n) n 1 (omega arith) (whole-value n N) ∙ ap enc (div-one (n * 2 ^ 1074))) ∙ at
+  limit-enc = sym (val-bits (ofWhole n) n 1 (omega arith) (whole-value n N) ∙ ap enc (div-one (n * 2 ^ 1074))) ∙ at
 
   finite-bits : (m : ℕ) (e : ℤ) → T (fits binary64 (fin false m e)) → leb (toBits binary64 (fin false m e)) L ≡ leb (m * up e) (n * down e)
   finite-bits m e f = bool-iff _ _ (λ t. tested t (leb (m * up e) (n * down e)) (nleb→lt (m * up e) (n * down e))) (λ t. le→leb _ L (le-trans (le-of-eq (pos-bits m e)) (le-trans (enc-mono (mag m e) (n * 2 ^ 1074) (mag-le n m e (leb→le (m * up e) (n * down e) t))) (le-of-eq limit-enc))))
@@ -124,7 +124,7 @@ module _ (n L : ℕ) (N : n ≤ 2 ^ 53) (at : toBits binary64 (whole n) ≡ L) (
       at-limit : toBits binary64 v ≡ L → HasValue v false n 1
       at-limit l =
           subst (λ (w : Float). HasValue w false n 1)
-          (sym (ofBits-toBits binary64 (whole n) (ofInt-fits binary64 (pos n))) ∙ ap (ofBits binary64) (at ∙ sym l) ∙ ofBits-toBits binary64 v f)
+          (sym (ofBits-toBits binary64 (ofWhole n) (ofInt-fits binary64 (pos n))) ∙ ap (ofBits binary64) (at ∙ sym l) ∙ ofBits-toBits binary64 v f)
           (whole-value n N)
 
       tested : T (leb (toBits binary64 v) L) → (t : Bool) → (T (not t) → n * down e < m * up e) → T t

@@ -14,14 +14,14 @@ use lib.Ieee.Fits.{down-pos, ofInt-fits}
 use borrow.Author.Tests.{le-leb, lt-leb, leb-true, le-ltb, eqb-true, eq-eqb}
 use Rattle.units.specs.Limits.{xTop, varianceTop, targetTop}
 use Rattle.units.proofs.Every.{and-left, and-right}
-use Rattle.floats.specs.Bits.{whole, nought, bitsOf, floatOf, xBits, varianceBits, targetBits, sameFloat}
+use Rattle.floats.specs.Bits.{ofWhole, nought, bitsOf, floatOf, xBits, varianceBits, targetBits, sameFloat}
 use Rattle.floats.specs.Ranges.{upTo}
 use Rattle.floats.proofs.Encoding.{bits-value, unique, whole-value}
 
 -- L are the bits of the limit n
 pub record Limit (n L : ℕ) : Type 0 where
   pub exact : n ≤ 2 ^ 53
-  pub at : bitsOf (whole n) ≡ L
+  pub at : bitsOf (ofWhole n) ≡ L
   pub finite : L < 0x7ff0_0000_0000_0000
 
 pub x-limit : Limit xTop xBits
@@ -37,11 +37,11 @@ unfolding bitsOf toBits ofInt
 target-limit = record { exact = lit≤ tt; at = refl; finite = lit< tt }
 
 -- the code's literals, which have their bits
-pub x-top : ofBits binary64 xBits ≡ whole xTop
+pub x-top : ofBits binary64 xBits ≡ ofWhole xTop
 unfolding ofBits ofInt
 x-top = refl
 
-pub variance-top : ofBits binary64 varianceBits ≡ whole varianceTop
+pub variance-top : ofBits binary64 varianceBits ≡ ofWhole varianceTop
 unfolding ofBits ofInt
 variance-top = refl
 
@@ -140,10 +140,10 @@ value-range n k (fin false m e) l h f =
     ap (λ (b : Bool). b && leb (m * up e) (k * down e)) f
     ∙ le-leb (m * up e) (k * down e) (le-trans (le-of-eq (sym (mul-one (m * up e)) ∙ h .1)) (mul-le-mul-right (down e) l))
 
-pub whole-range : (n k : ℕ) → n ≤ k → n ≤ 2 ^ 53 → upTo k (whole n) ≡ true
-whole-range n k l h = value-range n k (whole n) l (whole-value n h) (is-true (fits binary64 (whole n)) (ofInt-fits binary64 (pos n)))
+pub whole-range : (n k : ℕ) → n ≤ k → n ≤ 2 ^ 53 → upTo k (ofWhole n) ≡ true
+whole-range n k l h = value-range n k (ofWhole n) l (whole-value n h) (is-true (fits binary64 (ofWhole n)) (ofInt-fits binary64 (pos n)))
 
-nought-is : nought ≡ whole 0
+nought-is : nought ≡ ofWhole 0
 unfolding ofBits ofInt
 nought-is = refl
 

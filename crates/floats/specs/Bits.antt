@@ -6,8 +6,8 @@ use lib.IntN.{pos}
 use lib.Ieee.{Float, binary64, fits, ofBits, ofInt, toBits}
 
 -- a whole number as a float; exact up to 2 ^ 53
-abbrev pub whole : ℕ → Float
-whole n = ofInt binary64 (pos n)
+abbrev pub ofWhole : ℕ → Float
+ofWhole n = ofInt binary64 (pos n)
 
 -- +0: the float whose bits are all 0
 abbrev pub nought : Float

@@ -2,7 +2,7 @@
 use mathlib.Core.Path.{ap}
 use lib.Ieee.{Float, binary64, div}
 use Rattle.units.specs.Limits.{factorScale}
-use Rattle.floats.specs.Bits.{whole}
+use Rattle.floats.specs.Bits.{ofWhole}
 use Rattle.filter.specs.Run.{measured}
 use borrow.Author.Needs.{needs}
 use Rattle.filter.proofs.run.measure.Statement.{statement}
@@ -16,7 +16,7 @@ int-to-float-result c = search needs
 
 returns : tie.Need-returns
 unfolding measured
-returns c = ap (λ (w : Float). div binary64 w (whole factorScale)) (c .product .ensures)
+returns c = ap (λ (w : Float). div binary64 w (ofWhole factorScale)) (c .product .ensures)
 
 pub measure-spec : {M : Type 1} → statement M
 measure-spec = tie.close (tie.spec product-requires int-to-float-result returns)

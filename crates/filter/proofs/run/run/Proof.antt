@@ -5,7 +5,7 @@ use Prim.Native.Nat.{ℕ}
 use lib.Ieee.{Float}
 use Rattle.units.specs.declared.estimate.Estimate.{Estimate}
 use Rattle.units.specs.Limits.{varianceTop}
-use Rattle.floats.specs.Bits.{whole}
+use Rattle.floats.specs.Bits.{ofWhole}
 use Rattle.floats.proofs.Limits.{variance-top}
 use Rattle.filter.specs.declared.run.Outcome.the-variants.{Updated, Predicted}
 use Rattle.filter.specs.Run.{limited, grown, measured, gain, moved, shrunk, outcome}
@@ -18,7 +18,7 @@ module _ (e : Estimate) (n q r raw factor : ℕ) (p1 x p : Float) (g : p1 ≡ gr
   unfolding outcome
   updated z k Z K X P = cc
 
-  predicted : (top : Float) → top ≡ whole varianceTop → p ≡ limited top p1 → Predicted p ≡ outcome e n q r false raw factor
+  predicted : (top : Float) → top ≡ ofWhole varianceTop → p ≡ limited top p1 → Predicted p ≡ outcome e n q r false raw factor
   unfolding outcome
   predicted top H P = cc
 

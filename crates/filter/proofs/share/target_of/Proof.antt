@@ -1,7 +1,7 @@
 -- `target_of` meets its contract: its two roundings are those of `target`. Assumes nothing.
 use mathlib.Core.Path.{ap, _∙_}
 use lib.Ieee.{Float, binary64, mul, div}
-use Rattle.floats.specs.Bits.{whole}
+use Rattle.floats.specs.Bits.{ofWhole}
 use Rattle.filter.specs.Run.{atMost}
 use Rattle.filter.specs.Share.{target}
 use borrow.Author.Needs.{needs}
@@ -21,7 +21,7 @@ returns : tie.Need-returns
 unfolding target
 returns c =
     let a = c .before .before .before .args in
-    c .at-most .ensures ∙ ap (λ (d : Float). atMost (a .total) (div binary64 (mul binary64 (a .total) (whole (a .weight))) d)) (c .before .nearest-u64-to-f64 .ensures)
+    c .at-most .ensures ∙ ap (λ (d : Float). atMost (a .total) (div binary64 (mul binary64 (a .total) (ofWhole (a .weight))) d)) (c .before .nearest-u64-to-f64 .ensures)
 
 pub target-of-spec : {M : Type 1} → statement M
 target-of-spec =

@@ -2,12 +2,12 @@
 use mathlib.Core.Path.{_≡_, refl}
 use lib.Ieee.{binary64, ofBits, ofInt}
 use Rattle.units.specs.Limits.{controllersTop, runsTop, labelTop, rawTop, targetTop}
-use Rattle.floats.specs.Bits.{targetBits, whole}
+use Rattle.floats.specs.Bits.{targetBits, ofWhole}
 use Rattle.floats.proofs.Limits.{x-top, variance-top}
 use Rattle.controller.proofs.state.Controller.tops.Statement.{statement}
 use Rattle.controller.proofs.state.Controller.tops.Tie as tie
 
-target-top : ofBits binary64 targetBits ≡ whole targetTop
+target-top : ofBits binary64 targetBits ≡ ofWhole targetTop
 unfolding ofBits ofInt
 target-top = refl
 
