@@ -42,7 +42,7 @@ pub const SESSION: &str = "G\t2\t2\nN\t1\t300\t99\nK\t0\tC-101\t1.0047\t3\nK\t1\
     M\t1\t0\t200000\nM\t1\t1\t199060\nE\t1\nF\t1\nA\t1\t0\nM\t1\t0\t5\n";
 
 /// Short inputs that are always compared.
-const FIXED: [&str; 12] = [
+const FIXED: [&str; 15] = [
     SESSION,
     "",
     "\n",
@@ -55,6 +55,15 @@ const FIXED: [&str; 12] = [
     "G\t1\t1\nN\t1\t1\t1\nK\t0\t!\t0.9000\t1\nB\t0\t0",
     "G\t7\t1\nN\t1000000\t1000000\t1000000000\nK\t0\t~~~~~~~~~~~~~~~~\t1.1000\t1000\nB\t6\t4294967295\nM\t4294967295\t0\t0\n",
     "G\t1\t1\r\nN\t1\t1\t1\r\nK\t0\ta\t1.0000\t1\r\n",
+    // A weight just past its limit.
+    "G\t1\t1\nN\t1\t1\t1\nK\t0\ta\t1.0000\t1001\nB\t0\t0\nM\t1\t0\t5\nE\t1\nF\t1\n",
+    // As many measurements: the state label comes before the mask, so (1,4) wins over (2,3).
+    "G\t2\t2\nN\t1\t300\t99\nK\t0\ta\t1.0000\t1\nK\t1\tb\t1.0000\t1\nB\t0\t0\n\
+    U\t1\t4\t0000000000000000\t0000000000000000\t0000000000000000\t0000000000000000\n\
+    M\t5\t0\t7\nE\t5\nF\t5\nD\t1\t5\t3\t0002\n",
+    // One run, whose target by its quotient would be past the total.
+    "G\t2\t1\nN\t1\t300\t99\nK\t0\ta\t1.0047\t3\nB\t0\t0\nU\t1\t4\t4108876809A02752\t0000000000000000\n\
+    M\t5\t0\t200001\nE\t5\nF\t5\n",
 ];
 
 /// The input of a number. Every tenth has refused settings, some are no lines at all.

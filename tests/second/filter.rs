@@ -89,6 +89,8 @@ pub fn targets(settings: &Settings, state: &State) -> [f64; RUNS] {
     for run in 0..runs {
         let product = total * f64::from(settings.weights[run]);
         let quotient = product / f64::from(weights);
+        #[cfg(wrong)]
+        let total = if crate::wrong::is("target-over-total") { f64::INFINITY } else { total };
         targets[run] = if quotient > total { total } else { quotient };
     }
     targets

@@ -101,6 +101,13 @@ impl<'a> Fields<'a> {
         self.decimal(0, LABEL_LIMIT)
     }
 
+    fn floor(&mut self) -> Result<u32, u8> {
+        #[cfg(wrong)]
+        return self.decimal(0, LABEL_LIMIT - u32::from(crate::wrong::is("highest-floor")));
+        #[cfg(not(wrong))]
+        self.state_label()
+    }
+
     fn sender(&mut self, settings: &Settings) -> Result<u32, u8> {
         self.decimal(0, settings.controllers - 1)
     }
@@ -252,7 +259,11 @@ impl Settings {
         let run = fields.decimal(turn, turn)? as usize;
         certificate(fields.next())?;
         self.factors[run] = factor(fields.next())?;
-        self.weights[run] = fields.decimal(1, 1000)?;
+        #[cfg(wrong)]
+        let top = 1000 + u32::from(crate::wrong::is("weight-1001"));
+        #[cfg(not(wrong))]
+        let top = 1000;
+        self.weights[run] = fields.decimal(1, top)?;
         Ok(())
     }
 }
@@ -302,7 +313,7 @@ fn read_fields(settings: &Settings, kind: u8, count: usize, fields: &mut Fields)
         b'E' => Message::E { label: fields.label()? },
         b'V' => Message::V { label: fields.label()? },
         b'F' => Message::F { label: fields.label()? },
-        _ => Message::B { own: fields.sender(settings)?, floor: fields.state_label()? },
+        _ => Message::B { own: fields.sender(settings)?, floor: fields.floor()? },
     })
 }
 

@@ -67,9 +67,11 @@ impl Cutter {
 
     fn write_answers(&mut self, output: &mut impl Write) -> io::Result<()> {
         if !self.answers.is_empty() {
-            output.write_all(&self.answers)?;
-            output.flush()?;
+            let written = output.write_all(&self.answers).and_then(|()| output.flush());
             self.answers.clear();
+            if !wrong::is("glues-lines") {
+                return written;
+            }
         }
         Ok(())
     }
@@ -79,13 +81,20 @@ impl Cutter {
 fn serve(station: Station, input: &mut impl Read, output: &mut impl Write) -> Result<(), &'static str> {
     let mut cutter = Cutter::new(station);
     let mut block = vec![0; BLOCK];
+    let mut reads = 0;
     while cutter.station.refused.is_none() {
-        match input.read(&mut block) {
-            Ok(0) => return cutter.take_end(output).map_err(|_| "output failed"),
-            Ok(length) => cutter.take_block(&block[..length], output).map_err(|_| "output failed")?,
-            Err(e) if e.kind() == io::ErrorKind::Interrupted => {}
+        let length = match input.read(&mut block) {
+            Ok(length) => length,
+            Err(e) if e.kind() == io::ErrorKind::Interrupted => continue,
+            Err(_) if wrong::is("failed-read-ends") => 0,
             Err(_) => return Err("input failed"),
+        };
+        reads += 1;
+        if length == 0 || (reads > 10_000 && wrong::is("ten-thousand-reads")) {
+            return cutter.take_end(output).map_err(|_| "output failed");
         }
+        let taken = length - usize::from(length == BLOCK && wrong::is("drops-block-end"));
+        cutter.take_block(&block[..taken], output).map_err(|_| "output failed")?;
     }
     Ok(())
 }

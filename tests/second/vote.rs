@@ -15,6 +15,11 @@ pub struct Digest {
 impl Ord for Digest {
     /// By the number of measurements, then the state label, then the mask as a number.
     fn cmp(&self, other: &Self) -> Ordering {
+        #[cfg(wrong)]
+        if crate::wrong::is("mask-before-state") {
+            let key = |d: &Digest| (d.mask.count_ones(), d.mask, d.state);
+            return key(self).cmp(&key(other));
+        }
         let key = |d: &Digest| (d.mask.count_ones(), d.state, d.mask);
         key(self).cmp(&key(other))
     }

@@ -2,14 +2,11 @@
 
 /// The names of the faults.
 #[cfg(wrong)]
-pub const NAMES: [&str; 7] = [
-    "early-vote",
-    "forgets-floor",
-    "shortcut",
-    "collects-again",
-    "held-readings",
-    "update-while-voting",
-    "second-digest",
+#[rustfmt::skip]
+pub const NAMES: [&str; 15] = [
+    "early-vote", "forgets-floor", "shortcut", "collects-again", "held-readings", "update-while-voting", "second-digest",
+    "mask-before-state", "target-over-total", "weight-1001", "highest-floor",
+    "drops-block-end", "ten-thousand-reads", "glues-lines", "failed-read-ends",
 ];
 
 #[cfg(wrong)]
