@@ -23,7 +23,7 @@ pub struct Case<'a> {
 }
 
 #[rustfmt::skip]
-const CASES: [(&str, fn(&Case) -> Verdict); 17] = [
+const CASES: [(&str, fn(&Case) -> Verdict); 18] = [
     ("output to a full device", writing::full_device),
     ("output closed", writing::closed),
     ("the reader gone", writing::reader_gone),
@@ -31,6 +31,7 @@ const CASES: [(&str, fn(&Case) -> Verdict); 17] = [
     ("an output that does not wait", writing::never_waits),
     ("a write in parts", writing::goes_on),
     ("input ends within a line, or the settings", reading::ends_within),
+    ("refused settings, and the input stays open", reading::refused_settings),
     ("input closed", reading::closed),
     ("a directory as input", reading::directory),
     ("an input that does not wait", reading::never_waits),

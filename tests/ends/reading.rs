@@ -31,6 +31,21 @@ pub fn ends_within(case: &Case) -> Verdict {
     whole(case, &settings().as_bytes()[..30])
 }
 
+/// Refused settings are answered by X 15 and the end, though the input stays open.
+pub fn refused_settings(case: &Case) -> Verdict {
+    let settings = settings();
+    let (_, without) = settings.split_once('\n').ok_or("no settings")?;
+    let truth = case.truth(without.as_bytes())?;
+    let (theirs, mut to) = pipe().map_err(told)?;
+    let (mut output, ours) = pipe().map_err(told)?;
+    let program = Program::start(case.command, theirs, ours)?;
+    to.write_all(without.as_bytes()).map_err(told)?;
+    let mut came = Vec::new();
+    output.read_to_end(&mut came).map_err(told)?;
+    must_be(&came, &truth)?;
+    program.must_end("")
+}
+
 /// No byte can be read at all: nothing is answered, and X 15 is not.
 fn nothing_read(case: &Case, around: &Around, input: Stdio) -> Verdict {
     let (mut output, ours) = pipe().map_err(told)?;
