@@ -277,7 +277,7 @@ fn tell_settled(settled: Settled) {
         Answer::More => say(b"more\n"),
         Answer::Whole => {
             let next = settled.next;
-            let settings = next.settings;
+            let settings = next.settings();
             tell_settings(settings);
             tell_lines(settings);
         }

@@ -25,10 +25,10 @@ use units::Refusal;
 use units::Verdict;
 use units::limits::LINE;
 
-// What is read so far, and the number of the next line, from 1.
+// What is read so far, and the number of the next line, from 1. Nobody outside puts one together: it comes from a start and lines taken.
 pub struct Settling {
-    pub line: u32,
-    pub settings: Settings,
+    pub(crate) line: u32,
+    pub(crate) settings: Settings,
 }
 
 pub enum Answer {
@@ -206,6 +206,28 @@ impl Settling {
                 certificates: [none; 16],
             },
         }
+    }
+
+    // The number of the next line.
+    pub fn line(self) -> u32
+        ensures { λ r. ⌜ r ≡ self .line ⌝ }
+    {
+        self.line
+    }
+
+    // The settings as they are read so far.
+    pub fn settings(self) -> Settings
+        ensures { λ r. ⌜ r ≡ self .settings ⌝ }
+    {
+        self.settings
+    }
+
+    // Their numbers.
+    pub fn numbers(self) -> Numbers
+        ensures { λ r. ⌜ r ≡ self .settings .numbers ⌝ }
+    {
+        let settings = self.settings;
+        settings.numbers
     }
 
     // The refusal of an input that ends where this line is still missing.

@@ -52,7 +52,7 @@ fn last_of(settling: Settling, n: usize, stage: Stage) -> Verdict
 {
     match stage {
         Stage::Settling => Verdict::Refused(Refusal::Settings {
-            line: settling.line,
+            line: settling.line(),
             reason: unended(n).number(),
         }),
         Stage::Waiting => unended_line(n),

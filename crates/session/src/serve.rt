@@ -46,7 +46,7 @@ impl Session {
         let core = next.core;
         let carry = next.carry;
         let controller = core.controller;
-        let numbers = core.settling.settings.numbers;
+        let numbers = core.numbers();
         let ran = run_lines(controller, numbers, &input[took..], &mut out[wrote..]);
         let after = ran.next;
         Fed {

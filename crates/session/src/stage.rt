@@ -1,8 +1,9 @@
 // What a session is at: the settings, before the first B, a running controller, or its end.
 ghost use mathlib.Core.Path.{_≡_};
-ghost use Rattle.session.specs.Turn.{coreStart, settledIn, runningWith};
+ghost use Rattle.session.specs.Turn.{coreStart, numbersIn, settledIn, runningWith};
 use controller::Controller;
 use lines::settle::Settling;
+use units::Numbers;
 use units::RoundLabel;
 
 pub enum Stage {
@@ -25,13 +26,21 @@ impl Core {
         ensures { λ r. ⌜ r ≡ coreStart ⌝ }
     {
         let settling = Settling::start();
-        let numbers = settling.settings.numbers;
+        let numbers = settling.numbers();
         let controller = Controller::begin(numbers, 0, RoundLabel(0));
         Core {
             stage: Stage::Settling,
             settling,
             controller,
         }
+    }
+
+    // The numbers of the settings.
+    pub(crate) fn numbers(self) -> Numbers
+        ensures { λ r. ⌜ r ≡ numbersIn self ⌝ }
+    {
+        let settling = self.settling;
+        settling.numbers()
     }
 
     pub(crate) fn settled(self, stage: Stage, settling: Settling) -> Core

@@ -65,9 +65,7 @@ impl Core {
     fn begin(self, own: usize, floor: RoundLabel) -> Turned
         ensures { λ r. ⌜ r ≡ record { next = runningWith self (startOf (numbersIn self) own floor); written = Written.Done 0 } ⌝ }
     {
-        let settling = self.settling;
-        let settings = settling.settings;
-        let numbers = settings.numbers;
+        let numbers = self.numbers();
         self.running(Controller::begin(numbers, own, floor)).quiet()
     }
 
@@ -134,9 +132,7 @@ impl Core {
     fn advance(self, message: Message, out: &mut [u8]) -> Turned
         ensures { λ r. ⌜ Wrote (advancing self message) (now (out .entry)) (now (out .exit)) r ⌝ }
     {
-        let settling = self.settling;
-        let settings = settling.settings;
-        let numbers = settings.numbers;
+        let numbers = self.numbers();
         let controller = self.controller;
         let answer = controller.advance(numbers, message);
         let next = answer.next;
@@ -167,8 +163,7 @@ impl Core {
         ensures { λ r. ⌜ (r .feed ≡ feedAt (now (input .entry))) × ((feedAt (now (input .entry)) ≡ length (now (input .entry)) → ⊥) → Heard self (lineEnding carry (now (input .entry))) (r .line) (self .stage)) ⌝ }
     {
         let stage = self.stage;
-        let settling = self.settling;
-        let group = settling.settings.numbers.group;
+        let group = self.numbers().group;
         match stage {
             Stage::Settling => unread(input),
             Stage::Waiting => carry.first(input, group),

@@ -1,5 +1,5 @@
 -- `last_of` meets its contract. Assumes nothing.
-use mathlib.Core.Path.{ap, refl, _∙_}
+use mathlib.Core.Path.{ap, ap₂, refl, _∙_}
 use borrow.Author.Needs.{needs}
 use Rattle.units.proofs.Picked.{along}
 use Rattle.units.specs.declared.refusal.Refusal.the-variants.{Settings}
@@ -11,6 +11,9 @@ use Rattle.session.proofs.feed.last_of.Tie as tie
 
 enum-told : tie.Need-enum-told
 enum-told c = search needs
+
+line-requires : tie.Need-line-requires
+line-requires c κs = search needs
 
 unended-requires : tie.Need-unended-requires
 unended-requires c κs = search needs
@@ -35,7 +38,7 @@ enum-told-4 c = search needs
 
 returns : tie.Need-returns
 unfolding lastOf
-returns c = let a = c .before .before .before .before .args in along (lastOf (a .settling) (a .n)) (c .before .before .enum-told .given .1) (ap (λ k. Refused (Settings (a .settling .line) k)) (c .number .ensures ∙ ap numberOf (c .before .unended .ensures)))
+returns c = let a = c .before .before .before .before .before .args in along (lastOf (a .settling) (a .n)) (c .before .before .before .enum-told .given .1) (ap₂ (λ l k. Refused (Settings l k)) (c .before .before .line .ensures) (c .number .ensures ∙ ap numberOf (c .before .unended .ensures)))
 
 returns-2 : tie.Need-returns-2
 unfolding lastOf
@@ -54,6 +57,7 @@ last-of-spec =
     tie.close
     (tie.spec
     enum-told
+    line-requires
     unended-requires
     number-requires
     enum-told-2

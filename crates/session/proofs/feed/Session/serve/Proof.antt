@@ -26,6 +26,9 @@ same-length c = search needs
 returns : tie.Need-returns
 returns c = let a = c .before .before .before .before .before .before .before .before .before .args in let f = c .before .before .before .before .before .feed in code-stays (a .self) (a .input .now) (a .out .now) _ (f .ensures .1) (f .result) (f .ensures .0) (sym (c .before .may-run .ensures) ∙ not-true _ (c .if1 .taken))
 
+numbers-requires : tie.Need-numbers-requires
+numbers-requires c κs = search needs
+
 sub-run-lines : tie.Need-sub-run-lines
 sub-run-lines c = let f = c .before .before .before .before .before .before .before .before .before .feed in call-took _ _ _ (f .result) (f .ensures .0)
 
@@ -51,16 +54,16 @@ running-requires : tie.Need-running-requires
 running-requires c κs = search needs
 
 add-t20 : tie.Need-add-t20
-add-t20 c = let a = c .before .before .before .before .before .before .before .before .before .before .before .before .before .before .before .before .before .before .before .before .before .args in let f = c .before .before .before .before .before .before .before .before .before .before .before .before .before .before .before .before .before .feed in let g = code-goes (a .self) (a .input .now) (a .out .now) _ (f .ensures .1) (f .result) (f .ensures .0) (sym (c .before .before .before .before .before .before .before .before .before .before .before .before .before .may-run .ensures) ∙ not-false _ (c .before .before .before .before .before .before .before .before .before .before .before .before .if1 .left)) (c .before .before .before .before .before .run-lines .result) _ (c .before .before .before .before .before .run-lines .ensures) in let t : length (a .input .now) < 18446744073709551616 = omega (arith, c .before .before .before .before .before .before .before .before .before .before .before .before .before .before .before .before .before .before .before .before .before .good) in sum-fits _ _ (g .0 .0) t
+add-t20 c = let a = c .before .before .before .before .before .before .before .before .before .before .before .before .before .before .before .before .before .before .before .before .before .args in let f = c .before .before .before .before .before .before .before .before .before .before .before .before .before .before .before .before .before .feed in let g = code-goes (a .self) (a .input .now) (a .out .now) _ (f .ensures .1) (f .result) (f .ensures .0) (sym (c .before .before .before .before .before .before .before .before .before .before .before .before .before .may-run .ensures) ∙ not-false _ (c .before .before .before .before .before .before .before .before .before .before .before .before .if1 .left)) (c .before .before .before .before .before .run-lines .result) _ (rw (c .before .before .before .before .before .before .before .before .numbers .ensures) at (c .before .before .before .before .before .run-lines .ensures)) in let t : length (a .input .now) < 18446744073709551616 = omega (arith, c .before .before .before .before .before .before .before .before .before .before .before .before .before .before .before .before .before .before .before .before .before .good) in sum-fits _ _ (g .0 .0) t
 
 add-t24 : tie.Need-add-t24
-add-t24 c = let a = c .before .before .before .before .before .before .before .before .before .before .before .before .before .before .before .before .before .before .before .before .before .before .args in let f = c .before .before .before .before .before .before .before .before .before .before .before .before .before .before .before .before .before .before .feed in let g = code-goes (a .self) (a .input .now) (a .out .now) _ (f .ensures .1) (f .result) (f .ensures .0) (sym (c .before .before .before .before .before .before .before .before .before .before .before .before .before .before .may-run .ensures) ∙ not-false _ (c .before .before .before .before .before .before .before .before .before .before .before .before .before .if1 .left)) (c .before .before .before .before .before .before .run-lines .result) _ (c .before .before .before .before .before .before .run-lines .ensures) in let t : length (a .out .now) < 18446744073709551616 = omega (arith, c .before .before .before .before .before .before .before .before .before .before .before .before .before .before .before .before .before .before .before .before .before .before .good) in sum-fits _ _ (g .0 .1) t
+add-t24 c = let a = c .before .before .before .before .before .before .before .before .before .before .before .before .before .before .before .before .before .before .before .before .before .before .args in let f = c .before .before .before .before .before .before .before .before .before .before .before .before .before .before .before .before .before .before .feed in let g = code-goes (a .self) (a .input .now) (a .out .now) _ (f .ensures .1) (f .result) (f .ensures .0) (sym (c .before .before .before .before .before .before .before .before .before .before .before .before .before .before .may-run .ensures) ∙ not-false _ (c .before .before .before .before .before .before .before .before .before .before .before .before .before .if1 .left)) (c .before .before .before .before .before .before .run-lines .result) _ (rw (c .before .before .before .before .before .before .before .before .before .numbers .ensures) at (c .before .before .before .before .before .before .run-lines .ensures)) in let t : length (a .out .now) < 18446744073709551616 = omega (arith, c .before .before .before .before .before .before .before .before .before .before .before .before .before .before .before .before .before .before .before .before .before .before .good) in sum-fits _ _ (g .0 .1) t
 
 same-length-2 : tie.Need-same-length-2
-same-length-2 c = let a = c .before .before .before .before .before .before .before .before .before .before .before .before .before .before .before .before .before .before .before .before .before .before .args in let f = c .before .before .before .before .before .before .before .before .before .before .before .before .before .before .before .before .before .before .feed in let g = code-goes (a .self) (a .input .now) (a .out .now) _ (f .ensures .1) (f .result) (f .ensures .0) (sym (c .before .before .before .before .before .before .before .before .before .before .before .before .before .before .may-run .ensures) ∙ not-false _ (c .before .before .before .before .before .before .before .before .before .before .before .before .before .if1 .left)) (c .before .before .before .before .before .before .run-lines .result) _ (c .before .before .before .before .before .before .run-lines .ensures) in ap (λ (l : List ℕ). length l) (g .2) ∙ buffer-length (servedText (a .self) (a .input .now) (length (a .out .now))) (a .out .now)
+same-length-2 c = let a = c .before .before .before .before .before .before .before .before .before .before .before .before .before .before .before .before .before .before .before .before .before .before .args in let f = c .before .before .before .before .before .before .before .before .before .before .before .before .before .before .before .before .before .before .feed in let g = code-goes (a .self) (a .input .now) (a .out .now) _ (f .ensures .1) (f .result) (f .ensures .0) (sym (c .before .before .before .before .before .before .before .before .before .before .before .before .before .before .may-run .ensures) ∙ not-false _ (c .before .before .before .before .before .before .before .before .before .before .before .before .before .if1 .left)) (c .before .before .before .before .before .before .run-lines .result) _ (rw (c .before .before .before .before .before .before .before .before .before .numbers .ensures) at (c .before .before .before .before .before .before .run-lines .ensures)) in ap (λ (l : List ℕ). length l) (g .2) ∙ buffer-length (servedText (a .self) (a .input .now) (length (a .out .now))) (a .out .now)
 
 returns-2 : tie.Need-returns-2
-returns-2 c = let a = c .before .before .before .before .before .before .before .before .before .before .before .before .before .before .before .before .before .before .before .before .before .before .args in let f = c .before .before .before .before .before .before .before .before .before .before .before .before .before .before .before .before .before .before .feed in let g = code-goes (a .self) (a .input .now) (a .out .now) _ (f .ensures .1) (f .result) (f .ensures .0) (sym (c .before .before .before .before .before .before .before .before .before .before .before .before .before .before .may-run .ensures) ∙ not-false _ (c .before .before .before .before .before .before .before .before .before .before .before .before .before .if1 .left)) (c .before .before .before .before .before .before .run-lines .result) _ (c .before .before .before .before .before .before .run-lines .ensures) in (ap (λ (k : Core). record { next = record { core = k; carry = f .result .next .carry }; took = f .result .took + c .before .before .before .before .before .before .run-lines .result .took; wrote = f .result .wrote + c .before .before .before .before .before .before .run-lines .result .wrote; verdict = f .result .verdict }) (c .before .before .running .ensures) ∙ g .1, g .2)
+returns-2 c = let a = c .before .before .before .before .before .before .before .before .before .before .before .before .before .before .before .before .before .before .before .before .before .before .args in let f = c .before .before .before .before .before .before .before .before .before .before .before .before .before .before .before .before .before .before .feed in let g = code-goes (a .self) (a .input .now) (a .out .now) _ (f .ensures .1) (f .result) (f .ensures .0) (sym (c .before .before .before .before .before .before .before .before .before .before .before .before .before .before .may-run .ensures) ∙ not-false _ (c .before .before .before .before .before .before .before .before .before .before .before .before .before .if1 .left)) (c .before .before .before .before .before .before .run-lines .result) _ (rw (c .before .before .before .before .before .before .before .before .before .numbers .ensures) at (c .before .before .before .before .before .before .run-lines .ensures)) in (ap (λ (k : Core). record { next = record { core = k; carry = f .result .next .carry }; took = f .result .took + c .before .before .before .before .before .before .run-lines .result .took; wrote = f .result .wrote + c .before .before .before .before .before .before .run-lines .result .wrote; verdict = f .result .verdict }) (c .before .before .running .ensures) ∙ g .1, g .2)
 
 pub serve-spec : {M : Type 1} → statement M
 serve-spec =
@@ -70,6 +73,7 @@ serve-spec =
     may-run-requires
     same-length
     returns
+    numbers-requires
     sub-run-lines
     part-run-lines-start
     part-run-lines-end
