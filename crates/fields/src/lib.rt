@@ -18,6 +18,8 @@ pub use certificate::Certificate;
 pub use certificate::certificate_end;
 pub use cut::Carry;
 pub use cut::Cut;
+pub use digit::Digits;
+pub use digit::read_digits;
 pub use factor::put_factor;
 pub use factor::read_factor;
 pub use field::Field;
