@@ -7,6 +7,9 @@ pub mod Certificates
 pub mod Spellings
 pub mod Puts
 pub mod Starts
+pub mod Lines
+pub mod Carrying
+pub mod Holding
 -- what the functions' proofs need, and no caller's
 mod Reading
 mod Quicks

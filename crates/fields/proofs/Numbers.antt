@@ -2,14 +2,16 @@
 use Prim.Native.Nat.{ℕ, zero, suc, _+_, _-_, _*_, _/_, _%_, _^_, _≤_, _<_}
 use mathlib.Core.Path.{_≡_, refl, sym, ap, _∙_}
 use mathlib.Core.List.{List, [], _∷_, _++_}
-use mathlib.Core.Bool.{Bool, true, false}
+use mathlib.Core.Bool.{Bool, true, false, _&&_}
 use native.Mathlib.Omega.{arith}
-use native.Mathlib.Nat.{pow-suc, pow-zero, div-lt-iff-lt-mul, div-add-mod', div-div-eq-div-mul, div-one, mod-lt, mod-eq-of-lt, mul-comm}
+use native.Mathlib.Nat.{pow-suc, pow-zero, div-lt-iff-lt-mul, div-add-mod', div-div-eq-div-mul, div-one, mod-lt, mod-eq-of-lt, mul-comm, mul-le-mul-right}
 use lib.Arith.{digits-div, digits-mod}
-use lib.ListN.{length, length-append}
-use lib.Dec.{ltb, eqb, lit<, lit≤}
-use borrow.Author.Tests.{lt-ltb, le-ltb, ltb-true, eq-eqb, ne-eqb, eqb-true}
-use Rattle.fields.specs.Digits.{pick, digitOf, charOf, valueFrom, fixedIn, fixed, decimalIn, decimal}
+use lib.ListN.{length, take, drop, length-append, length-drop}
+use lib.Seq.{length-take-le}
+use lib.Dec.{leb, ltb, eqb, lit<, lit≤}
+use borrow.Author.Tests.{lt-ltb, le-ltb, ltb-true, eq-eqb, ne-eqb, eqb-true, leb-true, le-leb}
+use Rattle.units.proofs.Every.{and-left, and-right}
+use Rattle.fields.specs.Digits.{pick, digitOf, charOf, valueFrom, fixedIn, fixed, decimalIn, decimal, allDigits, digitsAt}
 use Rattle.fields.specs.Field.{plain, decimalSaid}
 use Rattle.fields.specs.declared.digit.Digits.{Digits}
 use Rattle.fields.specs.declared.digit.Digits.the-variants.{Said, Wrong}
@@ -112,6 +114,18 @@ fixed-only base k cs n q =
     by-test (eqb (length cs) k)
     (λ t. rw t (λ e. fixed-snoc base q (snoc cs) k n (eqb-true (length cs) k t) e))
     (λ t. rw t (λ e. absurd-by (cc)))
+
+fixed-below : (base : ℕ) {cs : List ℕ} → Snoc cs → (k n : ℕ) → length cs ≡ k → valueFrom base 0 cs ≡ Said n → n < base ^ k
+unfolding valueFrom
+fixed-below base nil zero n l e = let z : 0 ≡ n = cc in let p = pow-zero base in omega arith
+fixed-below base nil (suc k) n l e = absurd (omega arith)
+fixed-below base (add {xs = xs} v c) zero n l e = absurd (let a = length-append xs (c ∷ []) in omega arith)
+fixed-below base (add {xs = xs} v c) (suc k) n l e =
+    let a = length-append xs (c ∷ []) in
+    let (h, p, d, m) = after-value base (valueFrom base 0 xs) c n (sym (value-snoc base 0 xs c) ∙ e) in
+    let r : suc h ≤ base ^ k = fixed-below base v k h (omega arith) p in
+    let t : suc h * base ≤ base ^ k * base = mul-le-mul-right base r in
+    rw (pow-suc base k) (omega arith)
 
 -- the first digit of k + 1 stands before the last k
 pub fixed-top : (base k n : ℕ) → 0 < base → n < base ^ suc k → fixed base (suc k) n ≡ charOf (n / base ^ k) ∷ fixed base k n
@@ -279,3 +293,44 @@ dec-short (suc k) j n h =
 pub decimal-short : (j n : ℕ) → n < 10 ^ suc j → length (decimal n) ≤ suc j
 unfolding decimal
 decimal-short j n h = dec-short (suc n) j n h
+
+-- A FIXED NUMBER OF DIGITS AT A PLACE
+pub record ReadDigits (text : List ℕ) (at n v : ℕ) : Type 0 where
+  pub least : 1 ≤ n
+  pub most : n ≤ 16
+  pub below : v < 10 ^ n
+  pub bytes : take n (drop at text) ≡ fixed 10 n v
+
+-- what is accepted are n digits, and the number is theirs
+pub digits-only : (text : List ℕ) (at n v : ℕ) → digitsAt text at n ≡ Said v → ReadDigits text at n v
+unfolding digitsAt fixedIn
+digits-only text at n v =
+    by-test (leb 1 n && leb n 16)
+    (λ t. rw t (by-test (eqb (length (take n (drop at text))) n)
+    (λ l. rw l (λ e.
+    let k = eqb-true (length (take n (drop at text))) n l in
+    record {
+      least = leb-true 1 n (and-left (leb 1 n) (leb n 16) t);
+      most = leb-true n 16 (and-right (leb 1 n) (leb n 16) t);
+      below = fixed-below 10 (snoc (take n (drop at text))) n v k e;
+      bytes = fixed-snoc 10 (lit≤ tt) (snoc (take n (drop at text))) n v k e;
+    }))
+    (λ l. rw l (λ e. absurd-by (cc)))))
+    (λ t. rw t (λ e. absurd-by (cc)))
+
+-- n digits are accepted as their number
+pub digits-read : (text : List ℕ) (at n v : ℕ) → ReadDigits text at n v → digitsAt text at n ≡ Said v
+unfolding digitsAt
+digits-read text at n v r = rw (le-leb 1 n (r .least), le-leb n 16 (r .most), r .bytes) (fixed-read 10 n v (lit< tt) (lit≤ tt) (r .below))
+
+digits-value : (a : ℕ) (cs : List ℕ) → allDigits cs ≡ true → (v : ℕ) × (valueFrom 10 a cs ≡ Said v)
+unfolding allDigits valueFrom
+digits-value a [] e = (a, refl)
+digits-value a (c ∷ cs) e = rw (and-left (ltb (digitOf c) 10) (allDigits cs) e) (digits-value (a * 10 + digitOf c) cs (and-right (ltb (digitOf c) 10) (allDigits cs) e))
+
+-- whatever n digits they are
+pub digits-any : (text : List ℕ) (at n : ℕ) → 1 ≤ n → n ≤ 16 → at + n ≤ length text → allDigits (take n (drop at text)) ≡ true → (v : ℕ) × (digitsAt text at n ≡ Said v)
+unfolding digitsAt fixedIn
+digits-any text at n l m k e =
+    let t : length (take n (drop at text)) ≡ n = length-take-le n (drop at text) (let d = length-drop at text in omega arith) in
+    rw (le-leb 1 n l, le-leb n 16 m, eq-eqb (length (take n (drop at text))) n t) (digits-value 0 (take n (drop at text)) e)

@@ -12,7 +12,7 @@ use borrow.Author.Tests.{lt-ltb, le-ltb, ltb-true, ltb-false, eq-eqb, ne-eqb, eq
 use Rattle.units.proofs.Every.{and-left, and-right}
 use Rattle.fields.specs.Digits.{pick, digitOf, valueFrom, fixedIn, digitsOf}
 use Rattle.fields.specs.Text.{fieldAt, until}
-use Rattle.fields.specs.Field.{plain, decimalSaid, factorSaid, saidBy, fits, judge, readField, readAt, startOf, readHere, earlier}
+use Rattle.fields.specs.Field.{plain, decimalSaid, factorSaid, saidBy, fits, judge, readField, readAt, startOf, readHere}
 use Rattle.fields.specs.declared.digit.Digits.{Digits}
 use Rattle.fields.specs.declared.digit.Digits.the-variants.{Said, Wrong}
 use Rattle.fields.specs.declared.field.Field.{Field}
@@ -307,15 +307,6 @@ here-past text at sp low high h = here-wrong text at sp low high (rw (drop-of-le
 pub here-same : (text : List ℕ) (at low high : ℕ) (sp : Spelling) (r : Field) (tp : Spelling) → sp ≡ tp → r ≡ readHere text at tp low high → r ≡ readHere text at sp low high
 here-same text at low high sp r tp e j = rw e j
 
--- `moved_back`
-pub back-value : (f : Field) (n next m : ℕ) → f ≡ Value n next → m ≡ next - 1 → Value n m ≡ earlier f
-back-value f n next m e h = rw (e, h)
-
-earlier-judged : (low high next : ℕ) (d : Digits) → earlier (judge Factor low high (next + 1) d) ≡ judge Factor low high next d
-unfolding judge
-earlier-judged low high next (Said n) = by-test (fits Factor low high n) (λ t. let q : next + 1 - 1 ≡ next = omega arith in rw (t, q)) (λ t. rw t)
-earlier-judged low high next Wrong = refl
-
-pub here-factor : (text : List ℕ) (at low high : ℕ) (sp : Spelling) (f r : Field) → sp ≡ Factor → f ≡ readAt text at Factor low high → r ≡ earlier f → r ≡ readHere text at sp low high
-unfolding readHere readAt readField startOf
-here-factor text at low high sp f r e g h = rw e (h ∙ ap earlier g ∙ earlier-judged low high (at + length (fieldAt text at)) (saidBy Factor (fieldAt text at)))
+pub here-factor : (text : List ℕ) (at low high : ℕ) (sp : Spelling) → sp ≡ Factor → Form ≡ readHere text at sp low high
+unfolding startOf saidBy factorSaid
+here-factor text at low high sp e = rw e (here-wrong text at Factor low high refl)

@@ -9,10 +9,10 @@ use native.Mathlib.Nat.{pow-suc, pow-le-pow-right, mul-le-mul-left, mul-assoc}
 use lib.ListN.{length, getD, take, drop, length-append, length-take, length-drop, drop-of-length-le, take-append-drop}
 use lib.Seq.{drop-cons, drop-drop, getD-take, getD-drop}
 use lib.Dec.{eqb, ltb, leb, lit<, eqb·suc-suc}
-use borrow.Author.Tests.{lt-ltb, le-ltb, ltb-true, eq-eqb, ne-eqb, eqb-true, eqb-false, lt-leb, not-true, not-false}
+use borrow.Author.Tests.{lt-ltb, le-ltb, ltb-true, eq-eqb, ne-eqb, eqb-true, eqb-false, le-leb, lt-leb, not-true, not-false}
 use Rattle.units.specs.Limits.{labelTop, factorDigits}
 use Rattle.units.proofs.Every.{and-left, and-right}
-use Rattle.fields.specs.Digits.{pick, digitOf, valueFrom, fixedIn}
+use Rattle.fields.specs.Digits.{pick, digitOf, digitsAt, valueFrom, fixedIn}
 use Rattle.fields.specs.Text.{until, firstField, lacks, ends, starts, fieldAt, nextAt}
 use Rattle.fields.specs.Field.{plain, decimalSaid, factorSaid, saidBy, fits, judge, readField, readAt}
 use Rattle.fields.specs.declared.digit.Digits.{Digits}
@@ -407,3 +407,16 @@ unfolding digitOf
 digit-letter b h k e =
     let h1 : 48 ≤ b = omega arith in let h2 : 57 < b = omega arith in let h3 : b < 71 = omega arith in
     rw (le-ltb b 48 h1, le-ltb b 58 k, rw (lt-ltb 57 b h2) at e, lt-ltb b 71 h3)
+
+-- `read_digits`
+pub digits-few : (text : List ℕ) (at n : ℕ) → n < 1 → Wrong ≡ digitsAt text at n
+unfolding digitsAt
+digits-few text at n h = rw (lt-leb 1 n h)
+
+pub digits-many : (text : List ℕ) (at n : ℕ) → 16 < n → Wrong ≡ digitsAt text at n
+unfolding digitsAt
+digits-many text at n h = rw (le-leb 1 n (omega arith), lt-leb n 16 h)
+
+pub digits-made : (text : List ℕ) (at n : ℕ) (r : Digits) → 1 ≤ n → n ≤ 16 → r ≡ fixedIn 10 n 0 (take n (drop at text)) → r ≡ digitsAt text at n
+unfolding digitsAt
+digits-made text at n r l m e = rw (le-leb 1 n l, le-leb n 16 m) e

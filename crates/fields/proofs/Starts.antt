@@ -28,15 +28,12 @@ take-prefix zero cs = refl
 take-prefix (suc k) [] = refl
 take-prefix (suc k) (c ∷ cs) = ap (λ (l : List ℕ). c ∷ l) (take-prefix k cs)
 
-field-prefix : (cs : List ℕ) → cs ≡ firstField cs ++ drop (length (firstField cs)) cs
-field-prefix cs = sym (ap (λ (l : List ℕ). l ++ drop (length (firstField cs)) cs) (sym (until-take 9 cs)) ∙ take-append-drop (length (firstField cs)) cs)
-
 start-prefix : (sp : Spelling) (cs : List ℕ) → cs ≡ startOf sp cs ++ drop (length (startOf sp cs)) cs
 unfolding startOf
 start-prefix Decimal cs = digits-prefix 16 cs
 start-prefix Hex4 cs = take-prefix 4 cs
 start-prefix Hex16 cs = take-prefix 16 cs
-start-prefix Factor cs = field-prefix cs
+start-prefix Factor cs = refl
 
 pub record Stands (text : List ℕ) (at : ℕ) (sp : Spelling) (low high n next : ℕ) : Type 0 where
   pub bytes : drop at text ≡ spelled sp n ++ drop next text

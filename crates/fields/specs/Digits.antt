@@ -1,9 +1,9 @@
 -- Digits, the numbers that they say, and the digits of a number.
 use Prim.Native.Nat.{ℕ, zero, suc, _+_, _-_, _*_, _/_, _%_}
 use mathlib.Core.List.{List, [], _∷_, _++_}
-use mathlib.Core.Bool.{Bool, true, false}
-use lib.ListN.{length}
-use lib.Dec.{ltb, eqb}
+use mathlib.Core.Bool.{Bool, true, false, _&&_}
+use lib.ListN.{length, take, drop}
+use lib.Dec.{leb, ltb, eqb}
 use Rattle.fields.specs.declared.digit.Digits.{Digits}
 use Rattle.fields.specs.declared.digit.Digits.the-variants.{Said, Wrong}
 
@@ -46,3 +46,11 @@ unfoldable pub digitsOf : ℕ → List ℕ → List ℕ
 digitsOf zero cs = []
 digitsOf (suc k) [] = []
 digitsOf (suc k) (c ∷ cs) = pick (ltb (digitOf c) 10) (c ∷ digitsOf k cs) []
+
+unfoldable pub allDigits : List ℕ → Bool
+allDigits [] = true
+allDigits (c ∷ cs) = ltb (digitOf c) 10 && allDigits cs
+
+-- A FIXED NUMBER OF DIGITS: what exactly n decimal digits at a place say, whatever comes after them; n is 1 to 16, which 64 bits always carry
+unfoldable pub digitsAt : List ℕ → ℕ → ℕ → Digits
+digitsAt text at n = pick (leb 1 n && leb n 16) (fixedIn 10 n 0 (take n (drop at text))) Wrong

@@ -75,19 +75,13 @@ readField sp low high next cs = judge sp low high next (saidBy sp cs)
 unfoldable pub readAt : List ℕ → ℕ → Spelling → ℕ → ℕ → Field
 readAt text at sp low high = readField sp low high (nextAt text at) (fieldAt text at)
 
--- the bytes that a spelling can have where others start with it: sixteen digits at the most, a fixed number of bytes, or a whole field
+-- the bytes that a spelling can have where others start with it: sixteen digits at the most, or a fixed number of bytes; a factor is read as a whole field alone
 unfoldable pub startOf : Spelling → List ℕ → List ℕ
 startOf Decimal cs = digitsOf 16 cs
 startOf Hex4 cs = take 4 cs
 startOf Hex16 cs = take 16 cs
-startOf Factor cs = firstField cs
+startOf Factor cs = []
 
 -- the number whose spelling stands at a place, whatever comes after it, and the place after it
 unfoldable pub readHere : List ℕ → ℕ → Spelling → ℕ → ℕ → Field
 readHere text at sp low high = readField sp low high (at + length (startOf sp (drop at text))) (startOf sp (drop at text))
-
--- a field with its place one less
-abbrev pub earlier : Field → Field
-earlier (Value n next) = Value n (next - 1)
-earlier Form = Form
-earlier Range = Range

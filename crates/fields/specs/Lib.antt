@@ -4,3 +4,5 @@ pub mod Text
 pub mod Field
 pub mod Certificate
 pub mod Put
+pub mod Lines
+pub mod Cut

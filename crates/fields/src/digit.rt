@@ -2,7 +2,7 @@
 ghost use mathlib.Core.Path.{_≡_};
 ghost use Prim.Native.Nat.{_+_, _*_, _^_, _≤_, _<_};
 ghost use lib.ListN.{drop, take};
-ghost use Rattle.fields.specs.Digits.{charOf, digitOf, fixedIn};
+ghost use Rattle.fields.specs.Digits.{charOf, digitOf, digitsAt, fixedIn};
 
 // What a run of digits says.
 pub enum Digits {
@@ -64,4 +64,17 @@ pub(crate) fn digits_at(text: &[u8], at: usize, k: usize, base: u64, from: u64) 
         i += 1;
     }
     Digits::Said { n: n }
+}
+
+// The number that exactly n decimal digits at a place say, 1 to 16 of them, whatever comes after.
+pub fn read_digits(text: &[u8], at: usize, n: usize) -> Digits
+    ensures { λ r. ⌜ r ≡ digitsAt (now (text .entry)) at n ⌝ }
+{
+    if n < 1 {
+        return Digits::Wrong;
+    }
+    if 16 < n {
+        return Digits::Wrong;
+    }
+    digits_at(text, at, n, 10, 0)
 }

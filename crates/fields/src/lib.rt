@@ -1,5 +1,6 @@
-// Fields: digits, the one spelling of each number, splitting at tabs, certificates, and putting bytes.
+// Fields: digits, the one spelling of each number, splitting at tabs, certificates, putting bytes, and a stream cut into lines.
 pub mod certificate;
+pub mod cut;
 pub mod decimal;
 pub mod digit;
 pub mod factor;
@@ -15,6 +16,10 @@ pub mod write;
 
 pub use certificate::Certificate;
 pub use certificate::certificate_end;
+pub use cut::Carry;
+pub use cut::Cut;
+pub use digit::Digits;
+pub use digit::read_digits;
 pub use factor::put_factor;
 pub use factor::read_factor;
 pub use field::Field;

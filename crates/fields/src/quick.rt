@@ -1,15 +1,14 @@
 // Numbers read where their spelling stands, whatever comes after it: the quick way along a line that is as it should be.
 ghost use mathlib.Core.Path.{_≡_};
-ghost use Prim.Native.Nat.{_+_, _-_, _≤_, min};
+ghost use Prim.Native.Nat.{_+_, _≤_, min};
 ghost use lib.Dec.{ltb};
 ghost use lib.ListN.{drop, length};
 ghost use Rattle.fields.specs.Digits.{digitOf, digitsOf, pick, valueFrom};
-ghost use Rattle.fields.specs.Field.{earlier, readHere};
+ghost use Rattle.fields.specs.Field.{readHere};
 ghost use Rattle.fields.specs.declared.digit.Digits.{Digits};
 ghost use Rattle.fields.specs.declared.spelling.Spelling.{Spelling};
 use crate::digit::Digits;
 use crate::digit::digits_at;
-use crate::factor::read_factor;
 use crate::field::Field;
 use crate::field::judged;
 use crate::spelling::Spelling;
@@ -128,26 +127,7 @@ fn mask_here(text: &[u8], at: usize, low: u64, high: u64) -> Field
     }
 }
 
-fn one_less(n: usize) -> usize
-    ensures { λ r. ⌜ r ≡ n - 1 ⌝ }
-{
-    if n == 0 { 0 } else { n - 1 }
-}
-
-fn moved_back(field: Field) -> Field
-    ensures { λ r. ⌜ r ≡ earlier field ⌝ }
-{
-    match field {
-        Field::Value { n, next } => Field::Value {
-            n,
-            next: one_less(next),
-        },
-        Field::Form => Field::Form,
-        Field::Range => Field::Range,
-    }
-}
-
-// The number whose spelling stands at a place, whatever comes after it, and the place after it.
+// The number whose spelling stands at a place, whatever comes after it, and the place after it; a factor is read as a whole field alone.
 pub fn read_here(text: &[u8], at: usize, spelling: Spelling, low: u64, high: u64) -> Field
     ensures { λ r. ⌜ r ≡ readHere (now (text .entry)) at spelling low high ⌝ }
 {
@@ -158,6 +138,6 @@ pub fn read_here(text: &[u8], at: usize, spelling: Spelling, low: u64, high: u64
         Spelling::Decimal => decimal_here(text, at, low, high),
         Spelling::Hex4 => mask_here(text, at, low, high),
         Spelling::Hex16 => float_here(text, at, low, high),
-        Spelling::Factor => moved_back(read_factor(text, at, low, high)),
+        Spelling::Factor => Field::Form,
     }
 }

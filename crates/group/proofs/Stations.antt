@@ -26,6 +26,8 @@ use Rattle.message.specs.declared.value.Message.{Message}
 use Rattle.message.specs.Head.{headFits}
 use Rattle.message.specs.Message.{plain}
 use Rattle.fields.proofs.Cases.{by-test, absurd-by}
+use Rattle.fields.specs.Lines.{linesOf}
+use Rattle.fields.proofs.Lines.{lines-feed, lines-none}
 use Rattle.lines.specs.declared.kind.Found.the-variants.{Known}
 use Rattle.lines.specs.declared.read.Line.{Line}
 use Rattle.lines.specs.Reading.{readLine}
@@ -48,11 +50,9 @@ use Rattle.session.specs.declared.stage.Stage.the-variants.{Settling as AtSetti
 use Rattle.session.specs.Booting.{led}
 use Rattle.session.specs.Demand.{saidBy, stepBy}
 use Rattle.session.specs.Reach.{FitsAt, CoreFits}
-use Rattle.session.specs.Station.{linesOf}
 use Rattle.session.specs.Turn.{Turn, numbersIn, groupIn, coreStart, runningWith, quiet, refusing, waitsFor, hears, sentText, verdictText, answerText, answered, turnBy, stepping, turn}
 use Rattle.session.proofs.Demand2.{turn-steps}
 use Rattle.session.proofs.Fits.{start-fits, turn-fits}
-use Rattle.session.proofs.Lines.{lines-feed, lines-none}
 use Rattle.session.proofs.Program.{first-start}
 use Rattle.session.proofs.Sent.{sent-back}
 use Rattle.group.specs.World.{Mark, put, confirms, rising}

@@ -12,6 +12,7 @@ use Rattle.units.specs.Pick.{pick}
 use Rattle.vote.specs.declared.digest.Digest.{Digest}
 use Rattle.message.specs.declared.head.Head.{Head}
 use Rattle.message.specs.declared.head.Head.the-variants.{Setpoints}
+use Rattle.fields.specs.Lines.{linesOf}
 use Rattle.lines.specs.Reading.{readLine}
 use Rattle.lines.specs.Writing.{spellLine}
 use Rattle.controller.specs.declared.state.Controller.{Controller}
@@ -20,7 +21,6 @@ use Rattle.session.specs.declared.stage.Stage.{Stage}
 use Rattle.session.specs.declared.stage.Stage.the-variants.{Settling as AtSettings, Waiting, Running, Ended}
 use Rattle.session.specs.Booting.{led}
 use Rattle.session.specs.Demand.{saidBy}
-use Rattle.session.specs.Station.{linesOf}
 use Rattle.session.specs.Turn.{numbersIn, groupIn, coreStart, turn}
 use Rattle.group.specs.World.{Mark, mark, confirms}
 use Rattle.group.specs.Premises.{Meters}

@@ -7,18 +7,18 @@ use lib.ListN.{replicate, getD-replicate}
 use Rattle.units.specs.declared.settings.Group.{Group}
 use Rattle.units.specs.Limits.{runsTop}
 use Rattle.units.specs.Settings.{groupFits}
-use Rattle.units.proofs.Every.{and-true, no-way}
+use Rattle.units.proofs.Every.{and-true}
 use Rattle.units.proofs.Masks.{no-run}
 use Rattle.floats.specs.Bits.{nought}
 use Rattle.floats.specs.Ranges.{blank, noEstimate, stateFits, targetsFit}
 use Rattle.floats.proofs.Places.{state-made, targets-made}
 use Rattle.message.specs.declared.head.Carried.{Carried}
 use Rattle.message.specs.declared.head.Head.{Head}
-use Rattle.message.specs.declared.head.Head.the-variants.{Reading, Query, Reply, Advert, Update, Vote, Setpoints, Due, CollectingEnds, VotingEnds, Floor, Start, Refused}
 use Rattle.message.specs.Head.{carry, carried, headFits, isPlain}
 use Rattle.message.specs.Message.{plain, messageFits}
 use Rattle.message.specs.Readings.{readingPlace, readingsFit}
 use Rattle.message.proofs.Ranges.{readings-made}
+use Rattle.message.proofs.Views.{plain-seen}
 
 -- arrays that a message does not use
 pub none-fit : readingsFit 0 (replicate 16 0) ≡ true
@@ -32,20 +32,8 @@ unused-targets = targets-made 0 (replicate runsTop nought) refl (λ i l k. absur
 
 -- a plain kind carries nothing
 pub carries-none : (s : Group) (head : Head) → isPlain head ≡ true → carried s head ≡ carry 0 0 0
-unfolding isPlain carried
-carries-none s (Reading label run raw) e = refl
-carries-none s (Query sender label mask) e = refl
-carries-none s (Reply sender label mask) e = no-way e
-carries-none s (Advert sender state) e = refl
-carries-none s (Update sender state) e = no-way e
-carries-none s (Vote sender label digest) e = refl
-carries-none s (Setpoints sender label digest) e = no-way e
-carries-none s (Due label) e = refl
-carries-none s (CollectingEnds label) e = refl
-carries-none s (VotingEnds label) e = refl
-carries-none s (Floor label) e = refl
-carries-none s (Start own floor) e = refl
-carries-none s (Refused number) e = refl
+unfolding carried
+carries-none s head e = let p = plain-seen head e in rw (p .0, p .1, p .2)
 
 -- a head that carries nothing is all that is judged of its message
 pub plain-fit : (s : Group) (head : Head) → carried s head ≡ carry 0 0 0 → messageFits s (plain head) ≡ (groupFits s && headFits s head)

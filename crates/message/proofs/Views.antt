@@ -1,10 +1,19 @@
 -- Every head is of a view's kind, or the view has nothing to say of it. Assumes nothing.
-use mathlib.Core.Path.{_≡_, refl, sym, ap, _∙_}
-use mathlib.Core.Bool.{true, false, true≢false}
+use Prim.Native.Nat.{ℕ}
+use mathlib.Core.Path.{_≡_, refl, sym, ap, subst, _∙_}
+use mathlib.Core.Bool.{true, false, not, true≢false}
+use mathlib.Core.List.{List, [], _∷_}
 use mathlib.Core.Option.{Option, none, some, Option·some-injective, Option·some-ne-none}
+use lib.Dec.{T}
+use denote.Enum.Declared.{tagOf}
+use mir.Val.{hasKey}
+use types.Run.{OneOf, miss}
+use Rattle.units.proofs.Every.{no-way}
 use Rattle.message.specs.declared.head.Head.{Head}
 use Rattle.message.specs.declared.head.Head.the-variants.{Reading, Query, Reply, Advert, Update, Vote, Setpoints, Due, CollectingEnds, VotingEnds, Floor, Start, Refused}
 use Rattle.message.specs.View.{Seen, asReading, toReading, asReply, toReply, asUpdate, toUpdate, asVote, toVote, asIssue, toIssue, asFloor, toFloor, asStart, toStart, isExchanged, isTelling}
+use Rattle.message.specs.Head.{isPlain}
+use Rattle.message.proofs.head.Head.{the-type}
 use Rattle.message.specs.View.Seen.{it, other}
 
 pub reading-seen : (h : Head) → Seen toReading asReading h
@@ -131,3 +140,25 @@ telling-exchanged h t =
     (λ k r. by-kind (λ k. asReply k ≡ none → isTelling k ≡ true → isExchanged k ≡ true) (λ v r t. refl)
     (λ k u. by-kind (λ k. asUpdate k ≡ none → asReply k ≡ none → isTelling k ≡ true → isExchanged k ≡ true) (λ v u r t. refl)
     (λ k d u r t. absurd (true≢false (sym t ∙ rw (r, u, d)))) (vote-seen k) u) (update-seen k) r) (reply-seen h) t
+
+-- a plain kind is none of R, U and S
+pub plain-seen : (h : Head) → isPlain h ≡ true → (asReply h ≡ none) × (asUpdate h ≡ none) × (asIssue h ≡ none)
+unfolding isPlain
+plain-seen h e = (
+  by-kind (λ k. isPlain k ≡ true → asReply k ≡ none) (λ v e. no-way e) (λ k n e. n) (reply-seen h) e,
+  by-kind (λ k. isPlain k ≡ true → asUpdate k ≡ none) (λ v e. no-way e) (λ k n e. n) (update-seen h) e,
+  by-kind (λ k. isPlain k ≡ true → asIssue k ≡ none) (λ v e. no-way e) (λ k n e. n) (issue-seen h) e,
+)
+
+-- the `_` arm of a match on a head is told which tags are left: a kind that has none of them is not seen
+pub unlisted : {A : Type 0} {make : A → Head} {view : Head → Option A} (ks : List ℕ) (n : ℕ) → ((v : A) → tagOf the-type (make v) ≡ n) → T (not (hasKey ks n)) → {h : Head} → Seen make view h
+    → OneOf ks (tagOf the-type h) → view h ≡ none
+unlisted ks n tag away (it v) o = absurd (miss ks n away (subst (OneOf ks) (tag v) o))
+unlisted ks n tag away (other e) o = e
+
+-- the kinds that carry no array, by their tags
+abbrev pub uncarrying : List ℕ
+uncarrying = 0 ∷ 1 ∷ 3 ∷ 5 ∷ 7 ∷ 8 ∷ 9 ∷ 10 ∷ 11 ∷ 12 ∷ []
+
+pub not-carrying : (h : Head) → OneOf uncarrying (tagOf the-type h) → (asReply h ≡ none) × (asUpdate h ≡ none) × (asIssue h ≡ none)
+not-carrying h o = (unlisted uncarrying 2 (λ v. refl) tt (reply-seen h) o, unlisted uncarrying 4 (λ v. refl) tt (update-seen h) o, unlisted uncarrying 6 (λ v. refl) tt (issue-seen h) o)

@@ -11,6 +11,7 @@ use Rattle.vote.specs.Digest.{legal}
 use Rattle.message.specs.declared.head.Carried.{Carried}
 use Rattle.message.specs.declared.head.Head.{Head}
 use Rattle.message.specs.declared.head.Head.the-variants.{Reading, Query, Reply, Advert, Update, Vote, Setpoints, Due, CollectingEnds, VotingEnds, Floor, Start, Refused}
+use Rattle.message.specs.View.{onReply, onUpdate, onIssue}
 
 unfoldable pub headFits : Group → Head → Bool
 headFits s (Reading label run raw) = roundFits label && ltb run (s .m) && leb raw rawTop
@@ -33,32 +34,12 @@ carry readings estimates targets = record { readings = readings; estimates = est
 
 -- R carries one raw for each set bit, U the estimates of all m runs, S their targets, any other kind nothing
 unfoldable pub carried : Group → Head → Carried
-carried s (Reading label run raw) = carry 0 0 0
-carried s (Query sender label mask) = carry 0 0 0
-carried s (Reply sender label mask) = carry mask 0 0
-carried s (Advert sender state) = carry 0 0 0
-carried s (Update sender state) = carry 0 (s .m) 0
-carried s (Vote sender label digest) = carry 0 0 0
-carried s (Setpoints sender label digest) = carry 0 0 (s .m)
-carried s (Due label) = carry 0 0 0
-carried s (CollectingEnds label) = carry 0 0 0
-carried s (VotingEnds label) = carry 0 0 0
-carried s (Floor label) = carry 0 0 0
-carried s (Start own floor) = carry 0 0 0
-carried s (Refused number) = carry 0 0 0
+carried s h =
+    onReply (λ sender label mask. carry mask 0 0)
+    (onUpdate (λ sender state. carry 0 (s .m) 0)
+    (onIssue (λ sender label digest. carry 0 0 (s .m))
+    (carry 0 0 0) h) h) h
 
 -- any kind but those three
 unfoldable pub isPlain : Head → Bool
-isPlain (Reading label run raw) = true
-isPlain (Query sender label mask) = true
-isPlain (Reply sender label mask) = false
-isPlain (Advert sender state) = true
-isPlain (Update sender state) = false
-isPlain (Vote sender label digest) = true
-isPlain (Setpoints sender label digest) = false
-isPlain (Due label) = true
-isPlain (CollectingEnds label) = true
-isPlain (VotingEnds label) = true
-isPlain (Floor label) = true
-isPlain (Start own floor) = true
-isPlain (Refused number) = true
+isPlain h = onReply (λ sender label mask. false) (onUpdate (λ sender state. false) (onIssue (λ sender label digest. false) true h) h) h

@@ -151,45 +151,21 @@ impl Head {
     {
         let m = group.m;
         match self {
-            Head::Reading {
-                label: _,
-                run: _,
-                raw: _,
-            } => carry(0, 0, 0),
-            Head::Query {
-                sender: _,
-                label: _,
-                mask: _,
-            } => carry(0, 0, 0),
             Head::Reply {
                 sender: _,
                 label: _,
                 mask,
             } => carry(mask, 0, 0),
-            Head::Advert {
-                sender: _,
-                state: _,
-            } => carry(0, 0, 0),
             Head::Update {
                 sender: _,
                 state: _,
             } => carry(0, m, 0),
-            Head::Vote {
-                sender: _,
-                label: _,
-                digest: _,
-            } => carry(0, 0, 0),
             Head::Setpoints {
                 sender: _,
                 label: _,
                 digest: _,
             } => carry(0, 0, m),
-            Head::Due { label: _ } => carry(0, 0, 0),
-            Head::CollectingEnds { label: _ } => carry(0, 0, 0),
-            Head::VotingEnds { label: _ } => carry(0, 0, 0),
-            Head::Floor { label: _ } => carry(0, 0, 0),
-            Head::Start { own: _, floor: _ } => carry(0, 0, 0),
-            Head::Refused { number: _ } => carry(0, 0, 0),
+            _ => carry(0, 0, 0),
         }
     }
 
@@ -198,45 +174,21 @@ impl Head {
         ensures { λ r. ⌜ r ≡ isPlain self ⌝ }
     {
         match self {
-            Head::Reading {
-                label: _,
-                run: _,
-                raw: _,
-            } => true,
-            Head::Query {
-                sender: _,
-                label: _,
-                mask: _,
-            } => true,
             Head::Reply {
                 sender: _,
                 label: _,
                 mask: _,
             } => false,
-            Head::Advert {
-                sender: _,
-                state: _,
-            } => true,
             Head::Update {
                 sender: _,
                 state: _,
             } => false,
-            Head::Vote {
-                sender: _,
-                label: _,
-                digest: _,
-            } => true,
             Head::Setpoints {
                 sender: _,
                 label: _,
                 digest: _,
             } => false,
-            Head::Due { label: _ } => true,
-            Head::CollectingEnds { label: _ } => true,
-            Head::VotingEnds { label: _ } => true,
-            Head::Floor { label: _ } => true,
-            Head::Start { own: _, floor: _ } => true,
-            Head::Refused { number: _ } => true,
+            _ => true,
         }
     }
 }

@@ -22,6 +22,7 @@ use Rattle.plan.specs.declared.planned.Effect.the-variants.{Add}
 use Rattle.plan.specs.declared.planned.Plan.{Plan}
 use Rattle.plan.specs.Plan.{does, changeOf}
 use Rattle.fields.proofs.Cases.{by-test}
+use Rattle.fields.specs.Lines.{feedAt}
 use Rattle.lines.specs.declared.read.First.{First}
 use Rattle.lines.specs.Reading.{firstLine}
 use Rattle.lines.specs.Writing.{answerOf, bufferOf}
@@ -31,7 +32,7 @@ use Rattle.controller.specs.declared.step.Answer.{Answer}
 use Rattle.controller.specs.Effects.{added, applied}
 use Rattle.controller.specs.Step.{planned, readingChange}
 use Rattle.controller_laws.proofs.Adding.{adds-one, changes-none, not-one}
-use Rattle.session.specs.Feeding.{advanced, answerPut, doneLength, feedAt, putText}
+use Rattle.session.specs.Feeding.{advanced, answerPut, doneLength, putText}
 use Rattle.session.specs.Serving.{AddedBy, goesOn, isTaken, lineAnswer, ran, runOf}
 use Rattle.session.specs.Turn.{verdictText}
 use Rattle.session.proofs.Both.{length-done, mid-rest, put-rest}

@@ -17,6 +17,7 @@ use Rattle.units.proofs.Every.{no-way}
 use Rattle.fields.specs.Text.{lineFeed, until, lacks}
 use Rattle.fields.proofs.Cases.{by-test, absurd-by}
 use Rattle.fields.proofs.Texts.{until-append}
+use Rattle.fields.specs.Lines.{feedAt}
 use Rattle.message.specs.declared.head.Head.the-variants.{Start}
 use Rattle.message.specs.declared.settings.Settings.{Settings}
 use Rattle.message.specs.Message.{messageFits, plain}
@@ -42,7 +43,7 @@ use Rattle.session.specs.declared.feed.Session.{Session}
 use Rattle.session.specs.declared.stage.Core.{Core}
 use Rattle.session.specs.declared.stage.Stage.the-variants.{Settling as AtSettings, Waiting}
 use Rattle.session.specs.Booting.{led, inputOf, Settles, Starts}
-use Rattle.session.specs.Feeding.{feedAt, lineTurn, closed, fed, fedText, sessionStart}
+use Rattle.session.specs.Feeding.{lineTurn, closed, fed, fedText, sessionStart}
 use Rattle.session.specs.Pieces.{Feeds, Stands}
 use Rattle.session.specs.Pieces.Feeds.{none, more}
 use Rattle.session.specs.Turn.{Turn, coreStart, settledIn, runningWith, quiet, stepping, turn}

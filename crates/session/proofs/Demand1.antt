@@ -9,6 +9,8 @@ use Rattle.units.specs.declared.refusal.Refusal.{Refusal}
 use Rattle.units.specs.declared.refusal.Verdict.the-variants.{Taken, Refused}
 use Rattle.message.specs.declared.head.Head.{Head}
 use Rattle.fields.specs.Text.{lineFeed, lacks}
+use Rattle.fields.specs.Lines.{feedAt, unfinished, lineAt, linesOf}
+use Rattle.fields.proofs.Lines.{feed-none}
 use Rattle.lines.specs.Writing.{refusalLine, bufferOf}
 use Rattle.controller.specs.declared.state.Controller.{Controller}
 use Rattle.controller.specs.declared.step.Answer.{Answer}
@@ -20,11 +22,10 @@ use Rattle.session.specs.declared.feed.Fed.{Fed}
 use Rattle.session.specs.declared.feed.Session.{Session}
 use Rattle.session.specs.declared.stage.Stage.the-variants.{Settling as AtSettings}
 use Rattle.session.specs.Demand.{saidBy, stepBy, verdictOf, Unmoved, AllElse, RoundOver, Untouched, Demand1}
-use Rattle.session.specs.Feeding.{feedAt, lineTurn, fed, fedText, sessionStart}
-use Rattle.session.specs.Pieces.{Feeds, unfinished, lineAt, Stands}
-use Rattle.session.specs.Station.{linesOf, answers}
+use Rattle.session.specs.Feeding.{lineTurn, fed, fedText, sessionStart}
+use Rattle.session.specs.Pieces.{Feeds, Stands}
+use Rattle.session.specs.Station.{answers}
 use Rattle.session.specs.Turn.{Turn, numbersIn, refusing, answerText, stepping, turn}
-use Rattle.session.proofs.Lines.{feed-none}
 use Rattle.session.proofs.Room.{fed-line, text-line, closed-room, front, short}
 use Rattle.session.proofs.Verdicts.{refused-turn, over-turn}
 use Rattle.session.proofs.Whole.{start-stands, line-turn, next-stands, run, whole-from}

@@ -25,6 +25,7 @@ use Rattle.fields.specs.Field as Fields
 use Rattle.fields.specs.Field.{decimalSaid, factorSaid, saidBy, pointed, spelled, judge, readField}
 use Rattle.fields.specs.Put.{written}
 use Rattle.fields.specs.Text.{until, laterFields, tabbed}
+use Rattle.fields.specs.Lines.{linesOf}
 use Rattle.message.specs.Head.{headFits, carried}
 use Rattle.message.specs.Message.{plain, messageFits}
 use Rattle.message.specs.Readings.{readingsFit}
@@ -49,7 +50,7 @@ use Rattle.session.specs.declared.feed.Session.{Session}
 use Rattle.session.specs.Example.{bytesOf, sessionInput, sessionOutput}
 use Rattle.session.specs.Feeding.{lastTurn, finished, sessionStart}
 use Rattle.session.specs.Pieces.{Feeds}
-use Rattle.session.specs.Station.{linesOf, closing, answers, station}
+use Rattle.session.specs.Station.{closing, answers, station}
 use Rattle.session.specs.Turn.{coreStart, settlesTo, waitsFor, hears, sentText, verdictText, answerText, turnBy}
 use Rattle.session.proofs.Whole.{whole}
 

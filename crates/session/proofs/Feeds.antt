@@ -9,6 +9,8 @@ use Rattle.units.specs.declared.refusal.Verdict.{Verdict}
 use Rattle.units.specs.Pick.{pick}
 use Rattle.fields.proofs.Cases.{by-lt}
 use Rattle.fields.proofs.Texts.{until-short}
+use Rattle.fields.specs.Lines.{feedAt}
+use Rattle.fields.specs.Cut.{lineEnding, lineIn}
 use Rattle.lines.specs.declared.read.Line.{Line}
 use Rattle.lines.specs.declared.write.Written.{Written}
 use Rattle.lines.specs.Writing.{bufferOf}
@@ -17,7 +19,7 @@ use Rattle.session.specs.declared.feed.Session.{Session}
 use Rattle.session.specs.declared.stage.Core.{Core}
 use Rattle.session.specs.declared.stage.Stage.the-variants.{Ended}
 use Rattle.session.specs.declared.turn.Turned.{Turned}
-use Rattle.session.specs.Feeding.{Heard, Wrote, advancing, closed, shut, fed, fedText, feedAt, finished, holding, lastOf, lastTurn, lineEnding, lineIn, lineTurn}
+use Rattle.session.specs.Feeding.{Heard, Wrote, advancing, closed, shut, fed, fedText, finished, holding, lastOf, lastTurn, lineTurn}
 use Rattle.session.specs.Turn.{Turn, settledIn, turnBy, verdictText}
 use Rattle.session.proofs.Room.{fed-holds, text-none, fed-line, text-line}
 use Rattle.session.proofs.Writes.{Puts, puts-none, puts-same}
@@ -28,10 +30,6 @@ unfolding shut pick
 shut-closed x end t r before after w = by-lt (length before) (length (t .text))
     (λ h. let e = lt-ltb (length before) (length (t .text)) h in rw (w .0, w .1, e))
     (λ h. let e = le-ltb (length before) (length (t .text)) h in rw (w .0, w .1, e))
-
--- the place of the first line feed is not past the input
-pub feed-within : (input : List ℕ) (n : ℕ) → n ≡ feedAt input → n ≤ length input
-feed-within input n e = let a = until-short 10 input in omega arith
 
 module _ (x : Session) (input : List ℕ) (n : ℕ) (e : n ≡ feedAt input) where
   pub feed-held : (r : Fed) (buf : List ℕ) → n ≡ length input → r ≡ holding x input → (r ≡ fed x input (length buf)) × (buf ≡ bufferOf (fedText x input) buf)

@@ -9,14 +9,14 @@ use lib.Seq.{drop-length}
 use borrow.Author.Tests.{eqb-true}
 use Rattle.fields.specs.Text.{lineFeed, until}
 use Rattle.fields.proofs.Texts.{until-lacks}
+use Rattle.fields.specs.Lines.{feedAt, unfinished, linesOf}
+use Rattle.fields.proofs.Lines.{lines-feed, lines-none, unfinished-feed, feed-split}
 use Rattle.lines.specs.Reading.{ended}
 use Rattle.session.specs.declared.feed.Session.{Session}
 use Rattle.session.specs.Booting.{led, told, inputOf, LedTo}
-use Rattle.session.specs.Feeding.{feedAt, sessionStart}
-use Rattle.session.specs.Pieces.{Feeds, unfinished}
-use Rattle.session.specs.Station.{linesOf}
+use Rattle.session.specs.Feeding.{sessionStart}
+use Rattle.session.specs.Pieces.{Feeds}
 use Rattle.session.specs.Turn.{coreStart}
-use Rattle.session.proofs.Lines.{lines-feed, lines-none, unfinished-feed, feed-split}
 use Rattle.session.proofs.Whole.{start-stands, run}
 
 -- an input that ends in a line feed has nothing after its last one

@@ -1,11 +1,9 @@
 -- The laws of `session`.
-pub mod Holding
 pub mod Writes
 pub mod Turns
 pub mod Fits
 pub mod Same
 pub mod Long
-pub mod Lines
 pub mod Carrying
 pub mod Room
 pub mod Running

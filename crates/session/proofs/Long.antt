@@ -14,6 +14,7 @@ use Rattle.units.specs.Settings.{groupFits}
 use Rattle.message.specs.declared.value.Message.{Message}
 use Rattle.fields.specs.Text.{lineFeed, lacks}
 use Rattle.fields.proofs.Cases.{by-lt}
+use Rattle.fields.specs.Cut.{carryTop}
 use Rattle.lines.specs.declared.read.Line.{Line}
 use Rattle.lines.specs.declared.settle.Settled.{Settled}
 use Rattle.lines.specs.declared.settle.Settling.{Settling}
@@ -23,7 +24,7 @@ use Rattle.lines.proofs.Refusing.{read-long, settle-long, read-alike, read-unen
 use Rattle.session.specs.declared.stage.Core.{Core}
 use Rattle.session.specs.declared.stage.Stage.{Stage}
 use Rattle.session.specs.declared.stage.Stage.the-variants.{Settling as AtSettings, Waiting, Running, Ended}
-use Rattle.session.specs.Feeding.{carryTop, unended}
+use Rattle.session.specs.Feeding.{unended}
 use Rattle.session.specs.Turn.{Turn, groupIn, settlesTo, waitsFor, hears, turnBy}
 
 -- two lines over 600 bytes lead to the same

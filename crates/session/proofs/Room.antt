@@ -21,6 +21,8 @@ use Rattle.plan.specs.declared.planned.Sent.{Sent}
 use Rattle.plan.specs.declared.planned.Sent.the-variants.{Nothing, One}
 use Rattle.fields.proofs.Cases.{by-test, by-lt}
 use Rattle.fields.proofs.Texts.{until-short}
+use Rattle.fields.specs.Cut.{lineIn}
+use Rattle.fields.specs.Lines.{feedAt}
 use Rattle.lines.specs.declared.settle.Answer.{Answer as Told}
 use Rattle.lines.specs.declared.settle.Answer.the-variants.{More, Whole, Refused as NoSettings}
 use Rattle.lines.specs.declared.settle.Settling.{Settling}
@@ -35,7 +37,7 @@ use Rattle.session.specs.declared.feed.Session.{Session}
 use Rattle.session.specs.declared.stage.Core.{Core}
 use Rattle.session.specs.declared.stage.Stage.{Stage}
 use Rattle.session.specs.declared.stage.Stage.the-variants.{Settling as AtSettings, Waiting, Running, Ended}
-use Rattle.session.specs.Feeding.{fitText, restText, putText, advancing, lineIn, feedAt, lineTurn, closed, holding, fed, fedText, finished, lastTurn}
+use Rattle.session.specs.Feeding.{fitText, restText, putText, advancing, lineTurn, closed, holding, fed, fedText, finished, lastTurn}
 use Rattle.session.specs.Turn.{Turn, groupIn, settlesTo, waitsFor, hears, verdictText, turnBy}
 use Rattle.session.proofs.Both.{puts-room, puts-short}
 

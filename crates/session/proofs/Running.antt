@@ -14,11 +14,12 @@ use Rattle.units.specs.Limits.{lineTop}
 use Rattle.units.specs.Pick.{pick}
 use Rattle.fields.proofs.Cases.{by-test, by-lt}
 use Rattle.fields.proofs.Texts.{until-short}
+use Rattle.fields.specs.Lines.{feedAt}
 use Rattle.lines.specs.Reading.{firstLine}
 use Rattle.lines.specs.Writing.{bufferOf}
 use Rattle.controller.specs.declared.state.Controller.{Controller}
 use Rattle.controller.specs.declared.step.Answer.{Answer}
-use Rattle.session.specs.Feeding.{answerPut, feedAt}
+use Rattle.session.specs.Feeding.{answerPut}
 use Rattle.session.specs.Serving.{Run, stays, follows, isTaken, goesOn, lineAnswer, runOn, runOf, ran}
 use Rattle.session.proofs.Room.{front, put-short}
 

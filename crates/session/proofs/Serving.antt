@@ -16,17 +16,19 @@ use Rattle.units.specs.Limits.{lineTop}
 use Rattle.units.proofs.Every.{and-left, and-right}
 use Rattle.units.specs.Pick.{pick}
 use Rattle.fields.proofs.Cases.{by-test, by-lt}
+use Rattle.fields.specs.declared.cut.Carry.{Carry}
+use Rattle.fields.specs.Cut.{emptied, lineIn}
+use Rattle.fields.specs.Lines.{feedAt}
 use Rattle.lines.specs.Reading.{firstLine, readLine}
 use Rattle.lines.specs.Writing.{bufferOf}
 use Rattle.controller.specs.declared.state.Controller.{Controller}
-use Rattle.session.specs.declared.carry.Carry.{Carry}
 use Rattle.session.specs.declared.feed.Fed.{Fed}
 use Rattle.session.specs.declared.feed.Session.{Session}
 use Rattle.session.specs.declared.run.Ran.{Ran}
 use Rattle.session.specs.declared.stage.Core.{Core}
 use Rattle.session.specs.declared.stage.Stage.{Stage}
 use Rattle.session.specs.declared.stage.Stage.the-variants.{Settling as AtSettings, Waiting, Running, Ended}
-use Rattle.session.specs.Feeding.{advancing, answerPut, closed, emptied, fed, fedText, feedAt, lineIn, lineTurn}
+use Rattle.session.specs.Feeding.{advancing, answerPut, closed, fed, fedText, lineTurn}
 use Rattle.session.specs.Pieces.{Feeds}
 use Rattle.session.specs.Pieces.Feeds.{more}
 use Rattle.session.specs.Serving.{Run, firstText, goesOn, isRunning, isTaken, lineAnswer, mayRun, ran, ranOn, runAfter, runOn, served, servedText, stays}

@@ -12,9 +12,13 @@ use Rattle.units.specs.declared.refusal.Verdict.{Verdict}
 use Rattle.units.specs.Limits.{lineTop}
 use Rattle.units.specs.Pick.{pick}
 use Rattle.units.specs.Settings.{groupFits, numbersFit}
-use Rattle.fields.specs.Text.{lineFeed, until, lacks}
+use Rattle.fields.specs.Text.{lineFeed, lacks}
 use Rattle.fields.proofs.Cases.{by-test, by-lt}
-use Rattle.fields.proofs.Texts.{lacks-append, until-lacks}
+use Rattle.fields.proofs.Texts.{lacks-append}
+use Rattle.fields.specs.Cut.{carryTop}
+use Rattle.fields.specs.Lines.{feedAt, unfinished, lineAt, linesOf}
+use Rattle.fields.proofs.Carrying.{start-holds, emptied-holds, held-holds}
+use Rattle.fields.proofs.Lines.{lines-last, lines-none, unfinished-all, feed-none, lines-off, unfinished-off}
 use Rattle.lines.specs.declared.settle.Settling.{Settling}
 use Rattle.lines.specs.Writing.{bufferOf}
 use Rattle.controller_laws.proofs.Valid.{group-fits}
@@ -24,15 +28,14 @@ use Rattle.session.specs.declared.stage.Core.{Core}
 use Rattle.session.specs.declared.stage.Stage.{Stage}
 use Rattle.session.specs.declared.stage.Stage.the-variants.{Settling as AtSettings, Waiting, Running, Ended}
 use Rattle.session.specs.Booting.{led, told}
-use Rattle.session.specs.Feeding.{carryTop, advancing, feedAt, lineTurn, holding, fed, fedText, unended, unendedLine, lastOf, lastTurn, finished, sessionStart}
-use Rattle.session.specs.Pieces.{Feeds, unfinished, lineAt, Stands}
+use Rattle.session.specs.Feeding.{advancing, lineTurn, holding, fed, fedText, unended, unendedLine, lastOf, lastTurn, finished, sessionStart}
+use Rattle.session.specs.Pieces.{Feeds, Stands}
 use Rattle.session.specs.Pieces.Feeds.{none, more}
 use Rattle.session.specs.Reach.{FitsAt, CoreFits}
-use Rattle.session.specs.Station.{linesOf, closing, answers, station}
+use Rattle.session.specs.Station.{closing, answers, station}
 use Rattle.session.specs.Turn.{Turn, groupIn, numbersIn, settlesTo, hears, verdictText, turnBy, stepping, turn}
-use Rattle.session.proofs.Carrying.{start-holds, emptied-holds, held-holds, line-same}
+use Rattle.session.proofs.Carrying.{line-same}
 use Rattle.session.proofs.Fits.{start-fits, turn-fits}
-use Rattle.session.proofs.Lines.{lines-feed, lines-last, lines-none, unfinished-all, unfinished-feed, feed-split, feed-line, feed-none}
 use Rattle.session.proofs.Long.{read-last, settle-last}
 use Rattle.session.proofs.Room.{verdict-short, fed-holds, fed-line, text-line, closed-room, closed-none, front-take}
 use Rattle.session.proofs.Same.{same-turn}
@@ -62,28 +65,6 @@ answers-on : (c : Core) (ls ms : List (List ℕ)) → answers c (ls ++ ms) ≡ t
 unfolding led told answers
 answers-on c [] ms = refl
 answers-on c (l ∷ ls) ms = ap (λ (t : List ℕ). turn c l .text ++ t) (answers-on (turn c l .next) ls ms) ∙ sym (append-assoc (turn c l .text) (told (turn c l .next) ls) (answers (led (turn c l .next) ls) ms))
-
--- a line off the front, where the piece has its line feed
-module _ (p piece rest : List ℕ) (n : feedAt piece ≡ length piece → ⊥) where
-  abbrev later : List ℕ
-  later = drop (feedAt piece + 1) piece
-
-  feed-parts : p ++ (piece ++ rest) ≡ (p ++ until lineFeed piece) ++ (lineFeed ∷ (later ++ rest))
-  feed-parts =
-      let u = until lineFeed piece in
-      ap {B = List ℕ} (λ (l : List ℕ). p ++ (l ++ rest)) (feed-split piece n)
-      ∙ ap (λ (l : List ℕ). p ++ l) (append-assoc u (lineFeed ∷ later) rest)
-      ∙ sym (append-assoc p u (lineFeed ∷ (later ++ rest)))
-
-  lines-off : lacks lineFeed p ≡ true → linesOf (p ++ (piece ++ rest)) ≡ lineAt p piece ∷ linesOf (later ++ rest)
-  lines-off e =
-      let u = until lineFeed piece in
-      let y : (p ++ u) ++ (lineFeed ∷ []) ≡ lineAt p piece = append-assoc p u (lineFeed ∷ []) ∙ ap (λ (l : List ℕ). p ++ l) (sym (feed-line piece n)) in
-      ap linesOf feed-parts ∙ lines-feed (p ++ u) (later ++ rest) (lacks-append lineFeed p u e (until-lacks lineFeed piece))
-      ∙ ap {B = List (List ℕ)} (λ (l : List ℕ). l ∷ linesOf (later ++ rest)) y
-
-  unfinished-off : unfinished (p ++ (piece ++ rest)) ≡ unfinished (later ++ rest)
-  unfinished-off = ap unfinished feed-parts ∙ unfinished-feed (p ++ until lineFeed piece) (later ++ rest)
 
 -- ONE CALL: the line so far after it, and the lines that it took in, one or none, with what it wrote
 record One (x : Session) (p piece : List ℕ) (r : Fed) (wrote : List ℕ) : Type 0 where

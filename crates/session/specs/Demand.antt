@@ -12,6 +12,7 @@ use Rattle.units.specs.Limits.{lineTop}
 use Rattle.message.specs.declared.head.Head.{Head}
 use Rattle.message.specs.declared.head.Head.the-variants.{Reading, Query, Reply, Advert, Update, Vote, Setpoints, Due, CollectingEnds, VotingEnds, Floor, Start, Refused as HeadRefused}
 use Rattle.message.specs.declared.value.Message.{Message}
+use Rattle.fields.specs.Lines.{feedAt, linesOf}
 use Rattle.plan.specs.declared.brief.Phase.the-variants.{Idle}
 use Rattle.lines.specs.declared.settle.Answer.{Answer as Told}
 use Rattle.lines.specs.declared.settle.Answer.the-variants.{More, Whole, Refused as NoSettings}
@@ -27,10 +28,10 @@ use Rattle.session.specs.declared.feed.Session.{Session}
 use Rattle.session.specs.declared.stage.Core.{Core}
 use Rattle.session.specs.declared.stage.Stage.{Stage}
 use Rattle.session.specs.declared.stage.Stage.the-variants.{Settling as AtSettings, Waiting, Running, Ended}
-use Rattle.session.specs.Feeding.{feedAt, fed, fedText, finished, lastTurn}
+use Rattle.session.specs.Feeding.{fed, fedText, finished, lastTurn}
 use Rattle.session.specs.Pieces.{Feeds}
 use Rattle.session.specs.Reach.{CoreFits}
-use Rattle.session.specs.Station.{linesOf, answers}
+use Rattle.session.specs.Station.{answers}
 use Rattle.session.specs.Turn.{numbersIn, groupIn, runningWith, answerText, turn}
 
 -- THE VERDICT ON A LINE: the reader's 1 to 6 first; then 9 before the first B; then the step's

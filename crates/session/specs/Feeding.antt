@@ -1,10 +1,10 @@
 -- A SESSION FED WITH BYTES: what one call takes, writes and leaves. That this is the station program, however the input is cut, is proofs/Whole.antt.
-use Prim.Native.Nat.{ℕ, _+_, _-_}
+use Prim.Native.Nat.{ℕ, _+_}
 use mathlib.Core.Path.{_≡_}
 use mathlib.Core.List.{List, [], _++_}
 use mathlib.Core.Bool.{Bool, true, false}
 use lib.Dec.{eqb, ltb}
-use lib.ListN.{length, take, replicate}
+use lib.ListN.{length}
 use Rattle.units.specs.declared.refusal.Refusal.{Refusal}
 use Rattle.units.specs.declared.refusal.Refusal.the-variants.{Long, Unended, Range, Settings as NoSettings, Room}
 use Rattle.units.specs.declared.refusal.Verdict.{Verdict}
@@ -18,8 +18,8 @@ use Rattle.message.specs.declared.value.Message.{Message}
 use Rattle.message.specs.Message.{messageFits}
 use Rattle.plan.specs.declared.planned.Sent.{Sent}
 use Rattle.plan.specs.declared.planned.Sent.the-variants.{Nothing, One}
-use Rattle.fields.specs.Put.{put, putEnd}
-use Rattle.fields.specs.Text.{lineFeed, until}
+use Rattle.fields.specs.Cut.{carryStart, emptied, held, lineEnding}
+use Rattle.fields.specs.Lines.{feedAt}
 use Rattle.lines.specs.declared.read.Line.{Line}
 use Rattle.lines.specs.declared.settle.Settling.{Settling}
 use Rattle.lines.specs.Reading.{readLine}
@@ -30,7 +30,6 @@ use Rattle.controller.specs.declared.state.Controller.{Controller}
 use Rattle.controller.specs.declared.step.Answer.{Answer}
 use Rattle.controller.specs.Sent.{sentMessage}
 use Rattle.controller.specs.Step.{planned, carriedOut}
-use Rattle.session.specs.declared.carry.Carry.{Carry}
 use Rattle.session.specs.declared.feed.Fed.{Fed}
 use Rattle.session.specs.declared.feed.Session.{Session}
 use Rattle.session.specs.declared.stage.Core.{Core}
@@ -38,30 +37,6 @@ use Rattle.session.specs.declared.stage.Stage.{Stage}
 use Rattle.session.specs.declared.stage.Stage.the-variants.{Settling as AtSettings, Waiting, Running, Ended}
 use Rattle.session.specs.declared.turn.Turned.{Turned}
 use Rattle.session.specs.Turn.{Turn, groupIn, numbersIn, coreStart, settledIn, runningWith, verdictText, turnBy}
-
--- WHAT IS HELD of a line that has not ended: its first 601 bytes, enough to know that it is too long
-abbrev pub carryTop : ℕ
-carryTop = lineTop + 1
-
-unfoldable pub carryStart : Carry
-carryStart = record { len = 0; bytes = replicate carryTop 0 }
-
-abbrev pub emptied : Carry → Carry
-emptied k = record { len = 0; bytes = k .bytes }
-
--- how many of n more bytes are held
-unfoldable pub fitting : ℕ → ℕ → ℕ
-fitting len n = pick (ltb n (carryTop - len)) n (carryTop - len)
-
-unfoldable pub held : Carry → List ℕ → Carry
-held k more = record {
-  len = putEnd (k .bytes) (k .len) (take (carryTop - k .len) more);
-  bytes = put (k .bytes) (k .len) (take (carryTop - k .len) more);
-}
-
--- the line that ends with these bytes
-unfoldable pub lineIn : Carry → List ℕ → List ℕ
-lineIn k more = pick (eqb (k .len) 0) more (take (held k more .len) (held k more .bytes))
 
 -- WHAT IS WRITTEN of a step: a message out of range would not be, nor a third line; neither ever comes (proofs/Same.antt)
 abbrev pub advanced : Numbers → Controller → Message → Answer
@@ -95,13 +70,7 @@ abbrev pub doneLength : Written → ℕ
 doneLength (Done len) = len
 doneLength (NotWritten why) = 0
 
--- THE LINE AT HAND in a session: what is held, and the input up to its first line feed
-abbrev pub feedAt : List ℕ → ℕ
-feedAt input = length (until lineFeed input)
-
-abbrev pub lineEnding : Carry → List ℕ → List ℕ
-lineEnding k input = lineIn k (take (feedAt input + 1) input)
-
+-- THE LINE AT HAND in a session
 abbrev pub lineTurn : Session → List ℕ → Turn
 lineTurn x input = turnBy advancing (x .core) (lineEnding (x .carry) input) (x .core .stage)
 

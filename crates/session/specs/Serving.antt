@@ -13,6 +13,7 @@ use Rattle.units.specs.Limits.{lineTop}
 use Rattle.units.specs.Pick.{pick}
 use Rattle.message.specs.declared.head.Head.{Head}
 use Rattle.message.specs.declared.value.Message.{Message}
+use Rattle.fields.specs.Lines.{feedAt}
 use Rattle.plan.specs.declared.planned.Change.{Change}
 use Rattle.plan.specs.declared.planned.Change.the-variants.{Reading as OneReading}
 use Rattle.plan.specs.declared.planned.Effect.the-variants.{Add}
@@ -27,7 +28,7 @@ use Rattle.session.specs.declared.run.Ran.{Ran}
 use Rattle.session.specs.declared.stage.Stage.{Stage}
 use Rattle.session.specs.declared.stage.Stage.the-variants.{Settling as AtSettings, Waiting, Running, Ended}
 use Rattle.session.specs.Turn.{numbersIn, runningWith}
-use Rattle.session.specs.Feeding.{advanced, answerPut, feedAt, fed, fedText}
+use Rattle.session.specs.Feeding.{advanced, answerPut, fed, fedText}
 
 -- the change that a message makes, known where it is that one reading is added and nothing else
 abbrev pub AddedBy : Controller → Head → Change → Type 0

@@ -4,10 +4,10 @@ ghost use lib.ListN.{length};
 ghost use Rattle.lines.specs.Writing.{bufferOf};
 ghost use Rattle.session.specs.Feeding.{fed, fedText, finished, holding, isEnded, lastOf, lastTurn, sessionStart, shut, unendedLine};
 use crate::answer::put_verdict;
-use crate::carry::Carry;
 use crate::stage::Core;
 use crate::stage::Stage;
 use crate::turn::Turned;
+use fields::Carry;
 use lines::settle::Settling;
 use lines::write::Written;
 use units::Refusal;
@@ -150,7 +150,7 @@ impl Session {
         let carry = self.carry;
         let settling = core.settling;
         let stage = core.stage;
-        let written = put_verdict(last_of(settling, carry.len, stage), out);
+        let written = put_verdict(last_of(settling, carry.len(), stage), out);
         self.close(
             Turned {
                 next: core.settled(Stage::Ended, settling),

@@ -7,7 +7,6 @@ pub mod serve;
 pub mod stage;
 pub mod turn;
 
-pub use carry::Carry;
 pub use feed::Fed;
 pub use feed::Session;
 pub use run::Ran;

@@ -27,7 +27,7 @@ impl Session {
         let core = self.core;
         let carry = self.carry;
         let stage = core.stage;
-        is_running(stage) & (carry.len == 0)
+        is_running(stage) & carry.is_empty()
     }
 
     // Takes the next piece of the input as so many calls of `feed` would: up to the end of one line, and then each whole line in order

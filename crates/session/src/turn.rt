@@ -1,16 +1,20 @@
 // One whole line's turn: what the program is at next, and what it wrote.
 ghost use mathlib.Core.Path.{_≡_};
 ghost use lib.ListN.{length, take};
-ghost use Rattle.session.specs.Feeding.{Heard, Wrote, advancing, feedAt, lineEnding, lineIn};
+ghost use Rattle.fields.specs.Lines.{feedAt};
+ghost use Rattle.fields.specs.Cut.{lineEnding, lineIn};
+ghost use Rattle.session.specs.Feeding.{Heard, Wrote, advancing};
 ghost use Rattle.session.specs.Turn.{hears, numbersIn, refusing, runningWith, settlesTo, turnBy, waitsFor};
 ghost use Rattle.lines.specs.declared.write.Written.{Written};
 ghost use Rattle.controller.specs.Start.{startOf};
 use crate::answer::put_answer;
-use crate::carry::Carry;
+use crate::carry::first;
+use crate::carry::take_on;
 use crate::carry::unread;
 use crate::stage::Core;
 use crate::stage::Stage;
 use controller::Controller;
+use fields::Carry;
 use lines::Line;
 use lines::read::First;
 use lines::settle::Answer as Told;
@@ -166,8 +170,8 @@ impl Core {
         let group = self.numbers().group;
         match stage {
             Stage::Settling => unread(input),
-            Stage::Waiting => carry.first(input, group),
-            Stage::Running => carry.first(input, group),
+            Stage::Waiting => first(carry, input, group),
+            Stage::Running => first(carry, input, group),
             Stage::Ended => unread(input),
         }
     }
@@ -187,7 +191,7 @@ impl Core {
         let stage = self.stage;
         let settling = self.settling;
         match stage {
-            Stage::Settling => self.settle(carry.take_on(settling, input, n), out),
+            Stage::Settling => self.settle(take_on(carry, settling, input, n), out),
             Stage::Waiting => self.wait(line, out),
             Stage::Running => self.run(line, out),
             Stage::Ended => self.quiet(),

@@ -28,12 +28,6 @@ float-here-requires c κs = search needs
 enum-told-4 : tie.Need-enum-told-4
 enum-told-4 c = search needs
 
-read-factor-requires : tie.Need-read-factor-requires
-read-factor-requires c κs = search needs
-
-moved-back-requires : tie.Need-moved-back-requires
-moved-back-requires c κs = search needs
-
 returns-2 : tie.Need-returns-2
 returns-2 c = here-same _ _ _ _ _ _ _ (c .before .enum-told .given .1) (c .decimal-here .ensures)
 
@@ -44,7 +38,7 @@ returns-4 : tie.Need-returns-4
 returns-4 c = here-same _ _ _ _ _ _ _ (c .before .enum-told3 .given .1) (c .float-here .ensures)
 
 returns-5 : tie.Need-returns-5
-returns-5 c = here-factor _ _ _ _ _ _ _ (c .before .before .enum-told4 .given .1) (c .before .read-factor .ensures) (c .moved-back .ensures)
+returns-5 c = here-factor _ _ _ _ _ (c .enum-told4 .given .1)
 
 pub read-here-spec : {M : Type 1} → statement M
 read-here-spec =
@@ -58,8 +52,6 @@ read-here-spec =
     enum-told-3
     float-here-requires
     enum-told-4
-    read-factor-requires
-    moved-back-requires
     returns-2
     returns-3
     returns-4

@@ -1,7 +1,8 @@
 -- `Session::feed` meets its contract. Assumes nothing.
 use native.Mathlib.Omega.{arith}
 use borrow.Author.Needs.{needs}
-use Rattle.session.proofs.Feeds.{feed-within, feed-held, feed-heard, feed-turned}
+use Rattle.fields.proofs.Holding.{feed-within}
+use Rattle.session.proofs.Feeds.{feed-held, feed-heard, feed-turned}
 use Rattle.session.proofs.feed.Session.feed.Statement.{statement}
 use Rattle.session.proofs.feed.Session.feed.Tie as tie
 

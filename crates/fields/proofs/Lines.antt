@@ -3,18 +3,16 @@ use Prim.Native.Nat.{ℕ, suc, _+_}
 use native.Mathlib.Numerals.{add-one}
 use mathlib.Core.Path.{_≡_, refl, sym, ap, subst, _∙_}
 use mathlib.Core.Bool.{true, false}
-use mathlib.Core.List.{List, [], _∷_, _++_}
+use mathlib.Core.List.{List, [], _∷_, _++_, append-assoc}
 use lib.Dec.{eqb}
 use lib.ListN.{length, take, drop}
 use lib.Seq.{take-length}
 use borrow.Author.Tests.{eqb-true}
 use Rattle.units.specs.Pick.{pick}
+use Rattle.fields.specs.Lines.{feedAt, lineAt, linesOf, unfinished}
 use Rattle.fields.specs.Text.{lineFeed, until, lacks}
 use Rattle.fields.proofs.Cases.{by-test}
-use Rattle.fields.proofs.Texts.{until-take, until-lacks, lacks-first}
-use Rattle.session.specs.Feeding.{feedAt}
-use Rattle.session.specs.Pieces.{unfinished}
-use Rattle.session.specs.Station.{linesOf}
+use Rattle.fields.proofs.Texts.{until-take, until-lacks, lacks-first, lacks-append}
 
 -- up to its line feed and with it
 pub lines-feed : (s rest : List ℕ) → lacks lineFeed s ≡ true → linesOf (s ++ (lineFeed ∷ rest)) ≡ (s ++ (lineFeed ∷ [])) ∷ linesOf rest
@@ -70,3 +68,25 @@ feed-none input e = subst (λ (l : List ℕ). lacks lineFeed l ≡ true) (sym (u
   where
     all : take (length input) input ≡ input
     all = take-length input
+
+-- a line off the front, where the piece has its line feed
+module _ (p piece rest : List ℕ) (n : feedAt piece ≡ length piece → ⊥) where
+  abbrev pub later : List ℕ
+  later = drop (feedAt piece + 1) piece
+
+  feed-parts : p ++ (piece ++ rest) ≡ (p ++ until lineFeed piece) ++ (lineFeed ∷ (later ++ rest))
+  feed-parts =
+      let u = until lineFeed piece in
+      ap {B = List ℕ} (λ (l : List ℕ). p ++ (l ++ rest)) (feed-split piece n)
+      ∙ ap (λ (l : List ℕ). p ++ l) (append-assoc u (lineFeed ∷ later) rest)
+      ∙ sym (append-assoc p u (lineFeed ∷ (later ++ rest)))
+
+  pub lines-off : lacks lineFeed p ≡ true → linesOf (p ++ (piece ++ rest)) ≡ lineAt p piece ∷ linesOf (later ++ rest)
+  lines-off e =
+      let u = until lineFeed piece in
+      let y : (p ++ u) ++ (lineFeed ∷ []) ≡ lineAt p piece = append-assoc p u (lineFeed ∷ []) ∙ ap (λ (l : List ℕ). p ++ l) (sym (feed-line piece n)) in
+      ap linesOf feed-parts ∙ lines-feed (p ++ u) (later ++ rest) (lacks-append lineFeed p u e (until-lacks lineFeed piece))
+      ∙ ap {B = List (List ℕ)} (λ (l : List ℕ). l ∷ linesOf (later ++ rest)) y
+
+  pub unfinished-off : unfinished (p ++ (piece ++ rest)) ≡ unfinished (later ++ rest)
+  unfinished-off = ap unfinished feed-parts ∙ unfinished-feed (p ++ until lineFeed piece) (later ++ rest)

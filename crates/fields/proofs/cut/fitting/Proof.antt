@@ -1,7 +1,7 @@
 -- `fitting` meets its contract. Assumes nothing.
-use Rattle.session.proofs.Holding.{fitting-none, fitting-all, fitting-some}
-use Rattle.session.proofs.carry.fitting.Statement.{statement}
-use Rattle.session.proofs.carry.fitting.Tie as tie
+use Rattle.fields.proofs.Holding.{fitting-none, fitting-all, fitting-some}
+use Rattle.fields.proofs.cut.fitting.Statement.{statement}
+use Rattle.fields.proofs.cut.fitting.Tie as tie
 
 returns : tie.Need-returns
 returns c = fitting-none _ _ (c .if1 .taken)

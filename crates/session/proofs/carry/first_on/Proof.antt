@@ -1,14 +1,14 @@
--- `Carry::first_on` meets its contract. Assumes nothing.
+-- `first_on` meets its contract. Assumes nothing.
 use Prim.Native.Nat.{_+_}
 use native.Mathlib.Omega.{arith}
 use mathlib.Core.Path.{sym, ap, _∙_}
 use lib.ListN.{take}
 use borrow.Author.Needs.{needs}
-use Rattle.session.proofs.Feeds.{feed-within}
+use Rattle.fields.proofs.Holding.{feed-within}
+use Rattle.fields.specs.Cut.{lineIn}
 use Rattle.lines.specs.Reading.{readLine}
-use Rattle.session.specs.Feeding.{lineIn}
-use Rattle.session.proofs.carry.Carry.first_on.Statement.{statement}
-use Rattle.session.proofs.carry.Carry.first_on.Tie as tie
+use Rattle.session.proofs.carry.first_on.Statement.{statement}
+use Rattle.session.proofs.carry.first_on.Tie as tie
 
 unread-requires : tie.Need-unread-requires
 unread-requires c κs = search needs
@@ -23,7 +23,7 @@ read-on-requires : tie.Need-read-on-requires
 read-on-requires c κs = search needs
 
 returns-2 : tie.Need-returns-2
-returns-2 c = let a = c .before .before .before .before .args in (c .before .before .unread .ensures, λ n. c .read-on .ensures ∙ ap (λ k. readLine (a .group) (lineIn (a .self) (take (k + 1) (a .input .now)))) (c .before .before .unread .ensures))
+returns-2 c = let a = c .before .before .before .before .args in (c .before .before .unread .ensures, λ n. c .read-on .ensures ∙ ap (λ k. readLine (a .group) (lineIn (a .carry) (take (k + 1) (a .input .now)))) (c .before .before .unread .ensures))
 
 pub first-on-spec : {M : Type 1} → statement M
 first-on-spec = tie.close (tie.spec unread-requires returns add-read-on read-on-requires returns-2)

@@ -1,16 +1,16 @@
--- `Carry::take_on` meets its contract. Assumes nothing.
+-- `take_on` meets its contract. Assumes nothing.
 use mathlib.Core.Path.{sym, ap, _∙_}
+use Rattle.fields.proofs.Holding.{line-alone, line-whole}
 use Rattle.lines.specs.Settling.{settleLine}
-use Rattle.session.proofs.Holding.{line-alone, line-whole}
 use borrow.Author.Needs.{needs}
-use Rattle.session.proofs.carry.Carry.take_on.Statement.{statement}
-use Rattle.session.proofs.carry.Carry.take_on.Tie as tie
+use Rattle.session.proofs.carry.take_on.Statement.{statement}
+use Rattle.session.proofs.carry.take_on.Tie as tie
 
 take-first-requires : tie.Need-take-first-requires
 take-first-requires c κs = search needs
 
 returns : tie.Need-returns
-returns c = let a = c .before .before .before .before .args in c .take-first .ensures ∙ ap (settleLine (a .settling)) (sym (line-alone (a .self) _ (c .before .if1 .taken)))
+returns c = let a = c .before .before .before .before .args in c .take-first .ensures ∙ ap (settleLine (a .settling)) (sym (line-alone (a .carry) _ (c .before .if1 .taken)))
 
 hold-requires : tie.Need-hold-requires
 hold-requires c κs = search needs
@@ -22,7 +22,7 @@ take-first-requires-2 : tie.Need-take-first-requires-2
 take-first-requires-2 c κs = search needs
 
 returns-2 : tie.Need-returns-2
-returns-2 c = let a = c .before .before .before .before .before .before .before .args in c .take-first2 .ensures ∙ ap (settleLine (a .settling)) (sym (line-whole (a .self) _ _ (c .before .before .before .before .if1 .left) (c .before .before .before .hold .ensures)))
+returns-2 c = let a = c .before .before .before .before .before .before .before .args in c .take-first2 .ensures ∙ ap (settleLine (a .settling)) (sym (line-whole (a .carry) _ _ (c .before .before .before .before .if1 .left) (c .before .before .before .hold .ensures)))
 
 pub take-on-spec : {M : Type 1} → statement M
 take-on-spec =

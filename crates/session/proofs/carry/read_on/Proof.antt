@@ -1,16 +1,16 @@
--- `Carry::read_on` meets its contract. Assumes nothing.
+-- `read_on` meets its contract. Assumes nothing.
 use mathlib.Core.Path.{sym, ap, _∙_}
+use Rattle.fields.proofs.Holding.{line-alone, line-whole}
 use Rattle.lines.specs.Reading.{readLine}
-use Rattle.session.proofs.Holding.{line-alone, line-whole}
 use borrow.Author.Needs.{needs}
-use Rattle.session.proofs.carry.Carry.read_on.Statement.{statement}
-use Rattle.session.proofs.carry.Carry.read_on.Tie as tie
+use Rattle.session.proofs.carry.read_on.Statement.{statement}
+use Rattle.session.proofs.carry.read_on.Tie as tie
 
 read-part-requires : tie.Need-read-part-requires
 read-part-requires c κs = search needs
 
 returns : tie.Need-returns
-returns c = let a = c .before .before .before .before .args in c .read-part .ensures ∙ ap (readLine (a .group)) (sym (line-alone (a .self) _ (c .before .if1 .taken)))
+returns c = let a = c .before .before .before .before .args in c .read-part .ensures ∙ ap (readLine (a .group)) (sym (line-alone (a .carry) _ (c .before .if1 .taken)))
 
 hold-requires : tie.Need-hold-requires
 hold-requires c κs = search needs
@@ -22,7 +22,7 @@ read-part-requires-2 : tie.Need-read-part-requires-2
 read-part-requires-2 c κs = search needs
 
 returns-2 : tie.Need-returns-2
-returns-2 c = let a = c .before .before .before .before .before .before .before .args in c .read-part2 .ensures ∙ ap (readLine (a .group)) (sym (line-whole (a .self) _ _ (c .before .before .before .before .if1 .left) (c .before .before .before .hold .ensures)))
+returns-2 c = let a = c .before .before .before .before .before .before .before .args in c .read-part2 .ensures ∙ ap (readLine (a .group)) (sym (line-whole (a .carry) _ _ (c .before .before .before .before .if1 .left) (c .before .before .before .hold .ensures)))
 
 pub read-on-spec : {M : Type 1} → statement M
 read-on-spec =

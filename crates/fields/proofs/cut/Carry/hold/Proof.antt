@@ -2,10 +2,10 @@
 use native.Mathlib.Omega.{arith}
 use mathlib.Core.Path.{refl, sym}
 use lib.Seq.{length-take-le, take-all}
-use Rattle.session.proofs.Holding.{held-made}
+use Rattle.fields.proofs.Holding.{held-made}
 use borrow.Author.Needs.{needs}
-use Rattle.session.proofs.carry.Carry.hold.Statement.{statement}
-use Rattle.session.proofs.carry.Carry.hold.Tie as tie
+use Rattle.fields.proofs.cut.Carry.hold.Statement.{statement}
+use Rattle.fields.proofs.cut.Carry.hold.Tie as tie
 
 fitting-requires : tie.Need-fitting-requires
 fitting-requires c κs = search needs

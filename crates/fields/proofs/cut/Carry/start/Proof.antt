@@ -1,8 +1,8 @@
 -- `Carry::start` meets its contract. Assumes nothing.
 use mathlib.Core.Path.{refl}
-use Rattle.session.specs.Feeding.{carryStart}
-use Rattle.session.proofs.carry.Carry.start.Statement.{statement}
-use Rattle.session.proofs.carry.Carry.start.Tie as tie
+use Rattle.fields.specs.Cut.{carryStart}
+use Rattle.fields.proofs.cut.Carry.start.Statement.{statement}
+use Rattle.fields.proofs.cut.Carry.start.Tie as tie
 
 returns : tie.Need-returns
 unfolding carryStart

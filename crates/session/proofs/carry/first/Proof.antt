@@ -1,17 +1,17 @@
--- `Carry::first` meets its contract. Assumes nothing.
+-- `first` meets its contract. Assumes nothing.
 use mathlib.Core.Path.{sym, ap, _∙_}
 use borrow.Author.Needs.{needs}
+use Rattle.fields.proofs.Holding.{line-alone}
 use Rattle.lines.specs.Reading.{readLine, firstLine}
-use Rattle.session.proofs.Holding.{line-alone}
-use Rattle.session.proofs.carry.Carry.first.Statement.{statement}
-use Rattle.session.proofs.carry.Carry.first.Tie as tie
+use Rattle.session.proofs.carry.first.Statement.{statement}
+use Rattle.session.proofs.carry.first.Tie as tie
 
 read-first-requires : tie.Need-read-first-requires
 read-first-requires c κs = search needs
 
 returns : tie.Need-returns
 unfolding firstLine
-returns c = let a = c .before .before .before .before .args in (ap (λ f. f .feed) (c .read-first .ensures), λ n. ap (λ f. f .line) (c .read-first .ensures) ∙ ap (readLine (a .group)) (sym (line-alone (a .self) _ (c .before .if1 .taken))))
+returns c = let a = c .before .before .before .before .args in (ap (λ f. f .feed) (c .read-first .ensures), λ n. ap (λ f. f .line) (c .read-first .ensures) ∙ ap (readLine (a .group)) (sym (line-alone (a .carry) _ (c .before .if1 .taken))))
 
 first-on-requires : tie.Need-first-on-requires
 first-on-requires c κs = search needs
