@@ -55,7 +55,8 @@ use Rattle.controller.specs.Start.{startAt, startEstimates, startOf, started}
 use Rattle.controller.specs.Merge.{runBit, merged}
 use Rattle.controller.specs.Effects.{inPhase, begun, added, mergedIn, adopting, seated, counted, issuing, applied}
 use Rattle.controller.specs.Step.{inputsFit, stepped}
-use Rattle.controller_laws.specs.Ways.{Busy, Votes, Leads, Goes}
+use Rattle.controller_laws.specs.Phases.{Busy}
+use Rattle.controller_laws.specs.Ways.{Votes, Leads, Goes}
 use Rattle.controller_laws.specs.Ways.Votes.{another's, ours}
 use Rattle.controller_laws.specs.Ways.Leads.{refused, unchanged, begins, adds, replies, merges, updates, adopts-idle, adopts-before, adopts-past, asks, adverts, asks-and-adverts, collected, lapses, counts, open-still, behind, lacking, issues, restarts}
 use Rattle.controller_laws.specs.Ways.Goes.{out, led}
@@ -287,17 +288,17 @@ module _ (s : Numbers) (c : Controller) (fit : numbersFit s ≡ true) (v : Valid
     way-valid : {h : Head} {p : Plan} → Leads s c a h p → Told (s .group) a h → Valid s (applied s a c (p .effect))
     unfolding applied carried headFits
     way-valid (refused why e) t = v
-    way-valid unchanged t = v
+    way-valid (unchanged r) t = v
     way-valid (begins {label} {run} {raw} l k) t = begun-valid label run raw (t .head) l
-    way-valid (adds {run} {raw} e n) t = added-valid (c .label) run raw (t .head) e
-    way-valid (replies b n) t = v
-    way-valid (merges {sender} {mask} e n) t = merged-valid sender mask (a .readings) (t .head) (t .readings) e
-    way-valid (updates l) t = v
-    way-valid (adopts-idle {sender} {theirs} e l) t = adopting-valid sender theirs (a .estimates) Idle (t .head) (t .estimates) (λ b. absurd b)
-    way-valid (adopts-before {sender} {theirs} e l k) t = adopting-valid sender theirs (a .estimates) Collecting (t .head) (t .estimates) (λ b. (e, k))
-    way-valid (adopts-past {sender} {theirs} e l k) t = adopting-valid sender theirs (a .estimates) Idle (t .head) (t .estimates) (λ b. absurd b)
-    way-valid (asks e n) t = v
-    way-valid (adverts e l) t = v
+    way-valid (adds {run} {raw} e lo n) t = added-valid (c .label) run raw (t .head) e
+    way-valid (replies ne b n) t = v
+    way-valid (merges {sender} {mask} ne e n) t = merged-valid sender mask (a .readings) (t .head) (t .readings) e
+    way-valid (updates ne l) t = v
+    way-valid (adopts-idle {sender} {theirs} ne e l) t = adopting-valid sender theirs (a .estimates) Idle (t .head) (t .estimates) (λ b. absurd b)
+    way-valid (adopts-before {sender} {theirs} ne e l k) t = adopting-valid sender theirs (a .estimates) Collecting (t .head) (t .estimates) (λ b. (e, k))
+    way-valid (adopts-past {sender} {theirs} ne e l k) t = adopting-valid sender theirs (a .estimates) Idle (t .head) (t .estimates) (λ b. absurd b)
+    way-valid (asks e n lo) t = v
+    way-valid (adverts e lo l) t = v
     way-valid (asks-and-adverts e n l) t = v
     way-valid (collected e) t = go-valid Pending (λ b. rw e tt) (own-vote Collecting e)
     way-valid (lapses e) t = go-valid Idle (λ b. absurd b) tt

@@ -14,3 +14,4 @@ pub mod Changes
 pub mod Outcomes
 pub mod Clashes
 pub mod Session
+pub mod OneWay

@@ -23,7 +23,7 @@ use Rattle.controller_laws.specs.Endings.Ended.{by-time, by-lack, by-age
 use Rattle.controller_laws.specs.Ways.{ends, Leads, Goes}
 use Rattle.controller_laws.specs.Ways.Leads.{refused, unchanged, begins, adds, replies, merges, updates, adopts-idle, adopts-before, adopts-past, asks, adverts, asks-and-adverts, collected, lapses, counts, open-still, behind, lacking, issues, restarts}
 use Rattle.controller_laws.specs.Ways.Goes.{out, led}
-use Rattle.controller_laws.proofs.Ways.{goes}
+use Rattle.controller_laws.proofs.Ways.{refuses-keeps, goes}
 
 pub not-taken : {A : Type 0} {why : Refusal} → Taken ≡ Denied why → A
 not-taken p = let z : _≡_ {A = ℕ} 0 1 = cc in absurd (omega arith)
@@ -35,7 +35,7 @@ same-why p = cc
 not-both : {A : Type 0} {w why : Refusal} → Denied w ≡ Denied why → ends w ≡ true → ends why ≡ false → A
 not-both {w = w} {why = why} p q r = absurd (true≢false (sym q ∙ ap ends (same-why p) ∙ r))
 
-issue-taken : (e : Effect) (h : Head) (first : Sent) → afterwards e h first .verdict ≡ Taken
+pub issue-taken : (e : Effect) (h : Head) (first : Sent) → afterwards e h first .verdict ≡ Taken
 unfolding afterwards
 issue-taken e h Nothing = refl
 issue-taken e h (One one) = refl
@@ -44,17 +44,17 @@ module _ (s : Numbers) (c : Controller) (a : Message) (why : Refusal) where
   keeps : {h : Head} {p : Plan} → Leads s c a h p → p .verdict ≡ Denied why → ends why ≡ false → carriedOut s c a p ≡ refusedOnly c why
   unfolding applied
   keeps (refused w e) q n = λ i. record { next = c; first = Nothing; second = Nothing; verdict = q i }
-  keeps unchanged q n = not-taken q
+  keeps (unchanged r) q n = not-taken q
   keeps (begins l k) q n = not-taken q
-  keeps (adds e k) q n = not-taken q
-  keeps (replies b k) q n = not-taken q
-  keeps (merges e k) q n = not-taken q
-  keeps (updates l) q n = not-taken q
-  keeps (adopts-idle e l) q n = not-taken q
-  keeps (adopts-before e l k) q n = not-taken q
-  keeps (adopts-past e l k) q n = not-taken q
-  keeps (asks e k) q n = not-taken q
-  keeps (adverts e l) q n = not-taken q
+  keeps (adds e lo k) q n = not-taken q
+  keeps (replies ne b k) q n = not-taken q
+  keeps (merges ne e k) q n = not-taken q
+  keeps (updates ne l) q n = not-taken q
+  keeps (adopts-idle ne e l) q n = not-taken q
+  keeps (adopts-before ne e l k) q n = not-taken q
+  keeps (adopts-past ne e l k) q n = not-taken q
+  keeps (asks e k lo) q n = not-taken q
+  keeps (adverts e lo l) q n = not-taken q
   keeps (asks-and-adverts e k l) q n = not-taken q
   keeps (collected e) q n = not-taken q
   keeps (lapses e) q n = not-both {w = Undecided} q refl n
@@ -78,18 +78,18 @@ module _ (s : Numbers) (c : Controller) (a : Message) (why : Refusal) where
 
   ending : {h : Head} {p : Plan} → Leads s c a h p → p .verdict ≡ Denied why → ends why ≡ true → Ended c h why (carriedOut s c a p)
   unfolding applied
-  ending (refused w e) q n = not-both (sym q) n e
-  ending unchanged q n = not-taken q
+  ending (refused w e) q n = not-both (sym q) n (refuses-keeps e)
+  ending (unchanged r) q n = not-taken q
   ending (begins l k) q n = not-taken q
-  ending (adds e k) q n = not-taken q
-  ending (replies b k) q n = not-taken q
-  ending (merges e k) q n = not-taken q
-  ending (updates l) q n = not-taken q
-  ending (adopts-idle e l) q n = not-taken q
-  ending (adopts-before e l k) q n = not-taken q
-  ending (adopts-past e l k) q n = not-taken q
-  ending (asks e k) q n = not-taken q
-  ending (adverts e l) q n = not-taken q
+  ending (adds e lo k) q n = not-taken q
+  ending (replies ne b k) q n = not-taken q
+  ending (merges ne e k) q n = not-taken q
+  ending (updates ne l) q n = not-taken q
+  ending (adopts-idle ne e l) q n = not-taken q
+  ending (adopts-before ne e l k) q n = not-taken q
+  ending (adopts-past ne e l k) q n = not-taken q
+  ending (asks e k lo) q n = not-taken q
+  ending (adverts e lo l) q n = not-taken q
   ending (asks-and-adverts e k l) q n = not-taken q
   ending (collected e) q n = not-taken q
   ending (lapses e) q n = named q (by-time e)

@@ -34,7 +34,7 @@ use Rattle.plan.specs.Votes.{ownDigest}
 use Rattle.controller.specs.declared.state.Controller.{Controller}
 use Rattle.controller.specs.State.{briefOf, nobody, ballotAt, cast, phaseFits, controllerFits}
 use Rattle.controller.specs.Effects.{seated}
-use Rattle.controller_laws.specs.Ways.{Busy}
+use Rattle.controller_laws.specs.Phases.{Busy}
 
 pub five : (a b c d e : Bool) → (a && b && c && d && e) ≡ true → (a ≡ true) × (b ≡ true) × (c ≡ true) × (d ≡ true) × (e ≡ true)
 five a b c d e p =

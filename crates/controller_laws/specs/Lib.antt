@@ -1,4 +1,6 @@
 -- The ways that a step can go.
+pub mod Phases
+pub mod Reasons
 pub mod Ways
 pub mod Endings
 pub mod Sendings

@@ -18,7 +18,8 @@ use Rattle.controller.specs.declared.state.Controller.{Controller}
 use Rattle.controller.specs.declared.step.Answer.{Answer}
 use Rattle.controller.specs.State.{briefOf}
 use Rattle.controller.specs.Step.{decided}
-use Rattle.controller_laws.specs.Ways.{Busy, Early, Votes}
+use Rattle.controller_laws.specs.Phases.{Busy, Early}
+use Rattle.controller_laws.specs.Ways.{Votes}
 
 -- one of an answer's up to two messages
 abbrev pub IsSent : Answer → Head → Type 0
