@@ -267,13 +267,13 @@ module _ (s : Numbers) (c : Controller) (fit : numbersFit s ≡ true) (v : Valid
       (getD-set-same (c .votes) (c .own) (record { ballot = Cast digest }) nobody (omega (arith, seats-length (s .group) (c .label) (c .votes) (v .votes), v .own, sized s fit .g-high)))
 
   -- the seat of the group and the legal digest of a vote that is taken in
-  vote-fits : {h : Head} {seat : ℕ} {digest : Digest} {first : Sent} → Votes c h seat digest first → headFits (s .group) h ≡ true → (seat < s .group .g) × (legal m (c .label) digest ≡ true)
+  pub vote-fits : {h : Head} {seat : ℕ} {digest : Digest} {first : Sent} → Votes c h seat digest first → headFits (s .group) h ≡ true → (seat < s .group .g) × (legal m (c .label) digest ≡ true)
   unfolding headFits
   vote-fits (another's {sender} {digest} n e f) h =
       let q = and-three (ltb sender (s .group .g)) (roundFits (c .label)) (legal m (c .label) digest) h in (ltb-true _ _ (q .0), q .2)
   vote-fits (ours e) h = (v .own, own-legal (rw e tt))
 
-  voting-own : {h : Head} {seat : ℕ} {digest : Digest} {first : Sent} → Votes c h seat digest first → Busy (c .phase) × Own Voting (getD (seated (c .votes) seat digest) (c .own) nobody .ballot)
+  pub voting-own : {h : Head} {seat : ℕ} {digest : Digest} {first : Sent} → Votes c h seat digest first → Busy (c .phase) × Own Voting (getD (seated (c .votes) seat digest) (c .own) nobody .ballot)
   voting-own (another's {sender} {digest} n e f) = (rw e tt, subst (Own Voting) (others-seat sender digest n) (own-vote Voting e))
   voting-own (ours e) = (rw e tt, own-seat (ownDigest (briefOf c)))
 

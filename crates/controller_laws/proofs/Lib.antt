@@ -1,5 +1,6 @@
 -- The laws of the step.
 pub mod Ways
+pub mod OneWay
 pub mod Adding
 pub mod Masks
 pub mod Held
@@ -9,9 +10,9 @@ pub mod Refusals
 pub mod Decided
 pub mod Never
 pub mod Sendings
+pub mod Judging
 pub mod Rises
 pub mod Changes
 pub mod Outcomes
 pub mod Clashes
 pub mod Session
-pub mod OneWay

@@ -42,7 +42,7 @@ issue-calm e h (One one) = refl
 
 module _ (s : Numbers) (c : Controller) (a : Message) where
   -- what is decided lies before the round
-  decided-before : (seat : ℕ) (digest chosen : Digest) → decided s c seat digest ≡ Decided chosen → before (chosen .state) (c .label) ≡ true
+  pub decided-before : (seat : ℕ) (digest chosen : Digest) → decided s c seat digest ≡ Decided chosen → before (chosen .state) (c .label) ≡ true
   unfolding legal
   decided-before seat digest chosen d = and-right (leb (s .group .m) runsTop && maskFits (s .group .m) (chosen .mask)) _ (decided-legal (votesWith s c seat digest) chosen d)
 

@@ -214,7 +214,7 @@ module _ (s : Numbers) (c : Controller) (a : Message) where
     unfolding judgedPlan judgedIn
     voting-judges p e = along (λ (x : Phase). votePlan s c (does (Count sender digest x))) e refl
 
-    free-vote : {r : Plan} → (sender ≡ c .own → ⊥) → Busy (c .phase) → Free (ballotAt c sender) digest → r ≡ votePlan s c (does (Count sender digest (c .phase)))
+    pub free-vote : {r : Plan} → (sender ≡ c .own → ⊥) → Busy (c .phase) → Free (ballotAt c sender) digest → r ≡ votePlan s c (does (Count sender digest (c .phase)))
         → r ≡ planned s c a (Vote sender (c .label) digest)
     unfolding planned planDigest
     free-vote ne k f h = heard-vote sender _ ne (busy-vote (c .phase) k (h ∙ ap (votePlan s c) (seat-free (c .phase) (ballotAt c sender) f)))

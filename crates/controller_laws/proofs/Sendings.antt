@@ -93,7 +93,7 @@ module _ (s : Numbers) (c : Controller) (fit : numbersFit s ≡ true) (v : Valid
   sender : (x : Bool) → x ≡ true → (lib.Dec.ltb (c .own) (s .group .g) && x) ≡ true
   sender x h = and-both (lt-ltb _ _ (v .own)) h
 
-  round : Busy (c .phase) → roundFits (c .label) ≡ true
+  pub round : Busy (c .phase) → roundFits (c .label) ≡ true
   round b =
       let q = legal-facts m (c .label) (ownDigest (briefOf c)) (own-legal s c fit v b) in
       and-both (le-leb 1 (c .label .0) (omega (arith, q .older))) (le-leb (c .label .0) labelTop (v .label))

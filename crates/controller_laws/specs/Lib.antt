@@ -4,6 +4,7 @@ pub mod Reasons
 pub mod Ways
 pub mod Endings
 pub mod Sendings
+pub mod Judging
 pub mod Changes
 pub mod Outcomes
 pub mod Session
