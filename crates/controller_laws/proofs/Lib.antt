@@ -5,11 +5,13 @@ pub mod Adding
 pub mod Masks
 pub mod Held
 pub mod Valid
+pub mod InRange
 pub mod Fits
 pub mod Refusals
 pub mod Decided
 pub mod Never
 pub mod Sendings
+pub mod Telling
 pub mod Judging
 pub mod Rises
 pub mod Changes

@@ -3,6 +3,7 @@ use Prim.Native.Nat.{ℕ}
 use native.Mathlib.Omega.{arith}
 use mathlib.Core.Path.{_≡_, refl, sym, ap, subst, _∙_}
 use mathlib.Core.Bool.{true, false, true≢false}
+use mathlib.Core.Logic.{_⊎_, inl, inr}
 use Rattle.units.specs.declared.refusal.Refusal.{Refusal}
 use Rattle.units.specs.declared.refusal.Refusal.the-variants.{Range, Undecided, Lacking, Behind}
 use Rattle.units.specs.declared.refusal.Verdict.the-variants.{Taken, Refused as Denied}
@@ -17,9 +18,10 @@ use Rattle.plan.specs.Plan.{afterwards}
 use Rattle.controller.specs.declared.state.Controller.{Controller}
 use Rattle.controller.specs.declared.step.Answer.{Answer}
 use Rattle.controller.specs.Effects.{applied}
-use Rattle.controller.specs.Step.{carriedOut, stepped}
+use Rattle.controller.specs.Step.{inputsFit, carriedOut, stepped}
 use Rattle.controller_laws.specs.Endings.{refusedOnly, Ended}
 use Rattle.controller_laws.specs.Endings.Ended.{by-time, by-lack, by-age}
+use Rattle.controller_laws.specs.Reasons.{Refuses}
 use Rattle.controller_laws.specs.Ways.{ends, Leads, Goes}
 use Rattle.controller_laws.specs.Ways.Leads.{refused, unchanged, begins, adds, replies, merges, updates, adopts-idle, adopts-before, adopts-past, asks, adverts, asks-and-adverts, collected, lapses, counts, open-still, behind, lacking, issues, restarts}
 use Rattle.controller_laws.specs.Ways.Goes.{out, led}
@@ -35,7 +37,7 @@ same-why p = cc
 not-both : {A : Type 0} {w why : Refusal} → Denied w ≡ Denied why → ends w ≡ true → ends why ≡ false → A
 not-both {w = w} {why = why} p q r = absurd (true≢false (sym q ∙ ap ends (same-why p) ∙ r))
 
-pub issue-taken : (e : Effect) (h : Head) (first : Sent) → afterwards e h first .verdict ≡ Taken
+issue-taken : (e : Effect) (h : Head) (first : Sent) → afterwards e h first .verdict ≡ Taken
 unfolding afterwards
 issue-taken e h Nothing = refl
 issue-taken e h (One one) = refl
@@ -107,3 +109,35 @@ module _ (s : Numbers) (c : Controller) (a : Message) (why : Refusal) where
       way : {r : Answer} → Goes s c a r → r .verdict ≡ Denied why → Ended c (a .head) why r
       way (out e) p = not-both {w = why} {why = Range} (sym p) n refl
       way (led e w) p = ending w p n
+
+  -- ---- why a message is refused
+  said-why : {h : Head} {p : Plan} → Leads s c a h p → p .verdict ≡ Denied why → ends why ≡ false → Refuses c a h why
+  said-why {h} (refused w e) q n = subst (λ (x : Refusal). Refuses c a h x) (same-why q) e
+  said-why (unchanged r) q n = not-taken q
+  said-why (begins l k) q n = not-taken q
+  said-why (adds e b k) q n = not-taken q
+  said-why (replies ne b k) q n = not-taken q
+  said-why (merges ne e k) q n = not-taken q
+  said-why (updates ne l) q n = not-taken q
+  said-why (adopts-idle ne e l) q n = not-taken q
+  said-why (adopts-before ne e l k) q n = not-taken q
+  said-why (adopts-past ne e l k) q n = not-taken q
+  said-why (asks e k l) q n = not-taken q
+  said-why (adverts e k l) q n = not-taken q
+  said-why (asks-and-adverts e k l) q n = not-taken q
+  said-why (collected e) q n = not-taken q
+  said-why (lapses e) q n = not-both {w = Undecided} q refl n
+  said-why (counts k e f) q n = not-taken q
+  said-why (open-still w d) q n = not-taken q
+  said-why (behind w d b) q n = not-both {w = Behind} q refl n
+  said-why (lacking w d b k) q n = not-both {w = Lacking} q refl n
+  said-why (issues w d b k) q n = not-taken (sym (issue-taken _ _ _) ∙ q)
+  said-why restarts q n = not-taken q
+
+  -- every refusal but 12, 13 and 14 has its reason: 6 and something out of range, or one of document 01's table
+  pub refused-for : stepped s c a .verdict ≡ Denied why → ends why ≡ false → ((why ≡ Range) × (inputsFit s c a ≡ false)) ⊎ ((inputsFit s c a ≡ true) × Refuses c a (a .head) why)
+  refused-for q n = way (goes s c a) q
+    where
+      way : {r : Answer} → Goes s c a r → r .verdict ≡ Denied why → ((why ≡ Range) × (inputsFit s c a ≡ false)) ⊎ ((inputsFit s c a ≡ true) × Refuses c a (a .head) why)
+      way (out e) p = inl (sym (same-why p), e)
+      way (led e w) p = inr (e, said-why w p n)

@@ -177,7 +177,7 @@ module _ (s : Numbers) (c : Controller) (fit : numbersFit s ≡ true) (v : Valid
     way-ready (issues {chosen = chosen} w d b n) = issue-ready chosen w d
     way-ready restarts = (tt, tt)
 
-none-sent : {A : Type 0} {head : Head} → Nothing ≡ One head → A
+pub none-sent : {A : Type 0} {head : Head} → Nothing ≡ One head → A
 none-sent q = let z : _≡_ {A = ℕ} 0 1 = cc in absurd (omega arith)
 
 -- what holds of all that an answer sends holds of one of its messages

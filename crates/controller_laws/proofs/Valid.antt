@@ -105,7 +105,7 @@ module _ (s : Group) (label : RoundLabel) (votes : List Seat) where
   unfolding seatsFit
   seats-length h = eqb-true _ _ (and-left (eqb (length votes) 7) _ h)
 
-  seats-place : seatsFit s label votes ≡ true → (i : ℕ) → i < 7 → seatAt s label votes i ≡ true
+  pub seats-place : seatsFit s label votes ≡ true → (i : ℕ) → i < 7 → seatAt s label votes i ≡ true
   unfolding seatsFit
   seats-place h i k = every-at (seatAt s label votes) 7 i (and-right (eqb (length votes) 7) _ h) k
 

@@ -1,6 +1,7 @@
 -- The ways that a step can go.
 pub mod Phases
 pub mod Reasons
+pub mod InRange
 pub mod Ways
 pub mod Endings
 pub mod Sendings
