@@ -5,3 +5,4 @@ pub mod Merge
 pub mod Effects
 pub mod Step
 pub mod Sent
+pub mod Told

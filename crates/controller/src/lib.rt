@@ -5,7 +5,9 @@ pub mod sent;
 pub mod start;
 pub mod state;
 pub mod step;
+pub mod told;
 
 pub use start::Started;
 pub use state::Controller;
 pub use step::Answer;
+pub use told::Told;

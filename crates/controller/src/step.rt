@@ -216,8 +216,8 @@ impl Controller {
         }
     }
 
-    // One step: the state goes in, and comes back with what to send.
-    pub fn step(self, numbers: Numbers, message: Message) -> Answer
+    // A step on any inputs: 6 where one is out of range. `step` makes the messages of its answer.
+    pub fn checked(self, numbers: Numbers, message: Message) -> Answer
         ensures { λ r. ⌜ r ≡ stepped numbers self message ⌝ }
     {
         if self.inputs_in_range(numbers, message) {

@@ -43,12 +43,12 @@ use Rattle.controller.specs.Start.{startOf}
 use Rattle.controller.specs.Merge.{runBit, agreePlace, agreeAt, agrees, mergedAt, merged}
 use Rattle.controller.specs.Effects.{seated, applied}
 use Rattle.controller.specs.Step.{clashing, carriedOut, stepped}
-use Rattle.controller_laws.specs.Changes.{NoStart, ReadingFrom, VoteFrom, StateFrom}
+use Rattle.controller_laws.specs.Changes.{NoStart, ReadingFrom, VoteFrom}
 use Rattle.controller_laws.specs.Changes.ReadingFrom.{was-held, by-reading, by-reply}
 use Rattle.controller_laws.specs.Changes.VoteFrom.{was-cast, by-digest, by-floor}
-use Rattle.controller_laws.specs.Changes.StateFrom.{was-state, by-update, by-issue, by-start}
 use Rattle.controller_laws.specs.Sendings.{OnSent}
-use Rattle.controller_laws.specs.Ways.{Free, Votes, Leads, Goes}
+use Rattle.controller_laws.specs.Phases.{Free}
+use Rattle.controller_laws.specs.Ways.{Votes, Leads, Goes}
 use Rattle.controller_laws.specs.Ways.Votes.{another's, ours}
 use Rattle.controller_laws.specs.Ways.Leads.{refused, unchanged, begins, adds, replies, merges, updates, adopts-idle, adopts-before, adopts-past, asks, adverts, asks-and-adverts, collected, lapses, counts, open-still, behind, lacking, issues, restarts}
 use Rattle.controller_laws.specs.Ways.Goes.{out, led}
@@ -90,19 +90,19 @@ module _ (s : Numbers) (c : Controller) (a : Message) (i : ℕ) (k : i < 16) (q 
   keeps : {h : Head} {p : Plan} → Leads s c a h p → NoStart h → applied s a c (p .effect) .label ≡ c .label → Kept c i (applied s a c (p .effect))
   unfolding applied
   keeps (refused why e) n l = (q, refl)
-  keeps unchanged n l = (q, refl)
+  keeps (unchanged r) n l = (q, refl)
   keeps (begins {label} b g) n l = absurd (omega (arith, ap (λ (r : RoundLabel). r .0) l))
-  keeps (adds {run} {raw} e g) n l =
+  keeps (adds {run} {raw} e lo g) n l =
       (in-more (c .held) (runBit run) i q, getD-set-other (c .readings) run i raw 0 (λ z. never q (ap (inMask (c .held)) z ∙ g)))
-  keeps (replies b g) n l = (q, refl)
-  keeps (merges {mask = mask} e g) n l =
+  keeps (replies ne b g) n l = (q, refl)
+  keeps (merges {mask = mask} ne e g) n l =
       (in-more (c .held) mask i q, merged-place mask (a .readings) (c .readings) i k ∙ merged-keeps (inMask mask i) _ _ (λ z. agreed c mask (a .readings) g i k z q))
-  keeps (updates g) n l = (q, refl)
-  keeps (adopts-idle e g) n l = (q, refl)
-  keeps (adopts-before e g b) n l = (q, refl)
-  keeps (adopts-past e g b) n l = (q, refl)
-  keeps (asks e g) n l = (q, refl)
-  keeps (adverts e g) n l = (q, refl)
+  keeps (updates ne g) n l = (q, refl)
+  keeps (adopts-idle ne e g) n l = (q, refl)
+  keeps (adopts-before ne e g b) n l = (q, refl)
+  keeps (adopts-past ne e g b) n l = (q, refl)
+  keeps (asks e g lo) n l = (q, refl)
+  keeps (adverts e lo g) n l = (q, refl)
   keeps (asks-and-adverts e g b) n l = (q, refl)
   keeps (collected e) n l = (q, refl)
   keeps (lapses e) n l = (q, refl)
@@ -148,25 +148,25 @@ module _ (s : Numbers) (c : Controller) (a : Message) (i : ℕ) (k : i < 16) whe
     came : {h : Head} {p : Plan} → Leads s c a h p → a .head ≡ h → headFits (s .group) h ≡ true → inMask (applied s a c (p .effect) .held) i ≡ true → From (p .effect)
     unfolding applied startOf
     came (refused why e) u f q = was-held refl q refl
-    came unchanged u f q = was-held refl q refl
+    came (unchanged r) u f q = was-held refl q refl
     came (begins {label} {run} {raw} b g) u f q =
         let r = run-small label run raw f in
         by-cases (ℕ-discrete i run) (λ e. by-reading raw (u ∙ ap (λ (j : ℕ). Reading label j raw) (sym e)) (put (replicate 16 0) run raw refl r e))
         (λ n. never q (not-in-run run i r k n))
-    came (adds {run} {raw} e g) u f q =
+    came (adds {run} {raw} e lo g) u f q =
         let r = run-small (c .label) run raw f in
         by-cases (ℕ-discrete i run) (λ z. by-reading raw (u ∙ ap (λ (j : ℕ). Reading (c .label) j raw) (sym z)) (put (c .readings) run raw size r z))
         (λ n. was-held refl
         (sym (or-false (inMask (c .held) i)) ∙ ap (λ (b : Bool). inMask (c .held) i || b) (sym (not-in-run run i r k n)) ∙ sym (in-or (c .held) (runBit run) i) ∙ q)
         (getD-set-other (c .readings) run i raw 0 n))
-    came (replies b g) u f q = was-held refl q refl
-    came (merges {sender} {mask} e g) u f q = merges-from sender mask _ u refl q refl refl (inMask mask i) refl
-    came (updates g) u f q = was-held refl q refl
-    came (adopts-idle e g) u f q = was-held refl q refl
-    came (adopts-before e g b) u f q = was-held refl q refl
-    came (adopts-past e g b) u f q = was-held refl q refl
-    came (asks e g) u f q = was-held refl q refl
-    came (adverts e g) u f q = was-held refl q refl
+    came (replies ne b g) u f q = was-held refl q refl
+    came (merges {sender} {mask} ne e g) u f q = merges-from sender mask _ u refl q refl refl (inMask mask i) refl
+    came (updates ne g) u f q = was-held refl q refl
+    came (adopts-idle ne e g) u f q = was-held refl q refl
+    came (adopts-before ne e g b) u f q = was-held refl q refl
+    came (adopts-past ne e g b) u f q = was-held refl q refl
+    came (asks e g lo) u f q = was-held refl q refl
+    came (adverts e lo g) u f q = was-held refl q refl
     came (asks-and-adverts e g b) u f q = was-held refl q refl
     came (collected e) u f q = was-held refl q refl
     came (lapses e) u f q = was-held refl q refl
@@ -245,17 +245,17 @@ module _ (s : Numbers) (c : Controller) (a : Message) (seat : ℕ) (d : Digest) 
   vote-came : {h : Head} {p : Plan} → Leads s c a h p → a .head ≡ h → ballotAt (applied s a c (p .effect)) seat ≡ Cast d → FromVote (carriedOut s c a p)
   unfolding applied startOf
   vote-came (refused why e) u q = was-cast refl q
-  vote-came unchanged u q = was-cast refl q
+  vote-came (unchanged r) u q = was-cast refl q
   vote-came (begins b g) u q = no-vote seat q
-  vote-came (adds e g) u q = was-cast refl q
-  vote-came (replies b g) u q = was-cast refl q
-  vote-came (merges e g) u q = was-cast refl q
-  vote-came (updates g) u q = was-cast refl q
-  vote-came (adopts-idle e g) u q = was-cast refl q
-  vote-came (adopts-before e g b) u q = was-cast refl q
-  vote-came (adopts-past e g b) u q = was-cast refl q
-  vote-came (asks e g) u q = was-cast refl q
-  vote-came (adverts e g) u q = was-cast refl q
+  vote-came (adds e lo g) u q = was-cast refl q
+  vote-came (replies ne b g) u q = was-cast refl q
+  vote-came (merges ne e g) u q = was-cast refl q
+  vote-came (updates ne g) u q = was-cast refl q
+  vote-came (adopts-idle ne e g) u q = was-cast refl q
+  vote-came (adopts-before ne e g b) u q = was-cast refl q
+  vote-came (adopts-past ne e g b) u q = was-cast refl q
+  vote-came (asks e g lo) u q = was-cast refl q
+  vote-came (adverts e lo g) u q = was-cast refl q
   vote-came (asks-and-adverts e g b) u q = was-cast refl q
   vote-came (collected e) u q = was-cast refl q
   vote-came (lapses e) u q = was-cast refl q
@@ -310,17 +310,17 @@ module _ (s : Numbers) (c : Controller) (a : Message) (seat : ℕ) (d : Digest) 
     vote-keeps : {h : Head} {p : Plan} → Leads s c a h p → NoStart h → applied s a c (p .effect) .label ≡ c .label → ballotAt (applied s a c (p .effect)) seat ≡ Cast d
     unfolding applied
     vote-keeps (refused why e) n l = q
-    vote-keeps unchanged n l = q
+    vote-keeps (unchanged r) n l = q
     vote-keeps (begins {label} b g) n l = absurd (omega (arith, ap (λ (r : RoundLabel). r .0) l))
-    vote-keeps (adds e g) n l = q
-    vote-keeps (replies b g) n l = q
-    vote-keeps (merges e g) n l = q
-    vote-keeps (updates g) n l = q
-    vote-keeps (adopts-idle e g) n l = q
-    vote-keeps (adopts-before e g b) n l = q
-    vote-keeps (adopts-past e g b) n l = q
-    vote-keeps (asks e g) n l = q
-    vote-keeps (adverts e g) n l = q
+    vote-keeps (adds e lo g) n l = q
+    vote-keeps (replies ne b g) n l = q
+    vote-keeps (merges ne e g) n l = q
+    vote-keeps (updates ne g) n l = q
+    vote-keeps (adopts-idle ne e g) n l = q
+    vote-keeps (adopts-before ne e g b) n l = q
+    vote-keeps (adopts-past ne e g b) n l = q
+    vote-keeps (asks e g lo) n l = q
+    vote-keeps (adverts e lo g) n l = q
     vote-keeps (asks-and-adverts e g b) n l = q
     vote-keeps (collected e) n l = q
     vote-keeps (lapses e) n l = q
@@ -338,42 +338,3 @@ module _ (s : Numbers) (c : Controller) (a : Message) (seat : ℕ) (d : Digest) 
       way : {r : Answer} → Goes s c a r → r .next .label ≡ c .label → ballotAt (r .next) seat ≡ Cast d
       way (out e) l = q
       way (led e w) l = vote-keeps (inputs s c a e .valid) w n l
-
--- ---- where the state comes from
-module _ (s : Numbers) (c : Controller) (a : Message) where
-  abbrev FromState : Effect → Type 0
-  FromState e = StateFrom s c a (applied s a c e)
-
-  state-came : {h : Head} {p : Plan} → Leads s c a h p → a .head ≡ h → FromState (p .effect)
-  unfolding applied startOf
-  state-came (refused why e) u = was-state refl refl
-  state-came unchanged u = was-state refl refl
-  state-came (begins b g) u = was-state refl refl
-  state-came (adds e g) u = was-state refl refl
-  state-came (replies b g) u = was-state refl refl
-  state-came (merges e g) u = was-state refl refl
-  state-came (updates g) u = was-state refl refl
-  state-came (adopts-idle {sender} e l) u = by-update sender u refl l
-  state-came (adopts-before {sender} e l k) u = by-update sender u refl l
-  state-came (adopts-past {sender} e l k) u = by-update sender u refl l
-  state-came (asks e g) u = was-state refl refl
-  state-came (adverts e g) u = was-state refl refl
-  state-came (asks-and-adverts e g b) u = was-state refl refl
-  state-came (collected e) u = was-state refl refl
-  state-came (lapses e) u = was-state refl refl
-  state-came (counts n e f) u = was-state refl refl
-  state-came (open-still w z) u = was-state refl refl
-  state-came (behind w z b) u = was-state refl refl
-  state-came (lacking w z b g) u = was-state refl refl
-  state-came (issues {seat = seat} {digest = digest} {first = first} {chosen = chosen} w z b g) u =
-      subst FromState (sym (same-effect (Issue seat digest chosen) (Setpoints (c .own) (c .label) chosen) first))
-      (by-issue seat digest chosen first (subst (λ (h : Head). Votes c h seat digest first) (sym u) w) z b g refl refl refl)
-  state-came (restarts {own} {floor}) u = by-start own floor u refl refl
-
-  -- state label and estimates change together, by U, by an issue and by B alone
-  pub state-from : StateFrom s c a (stepped s c a .next)
-  state-from = way (goes s c a)
-    where
-      way : {r : Answer} → Goes s c a r → StateFrom s c a (r .next)
-      way (out e) = was-state refl refl
-      way (led e w) = state-came w refl

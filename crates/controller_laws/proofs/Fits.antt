@@ -55,7 +55,8 @@ use Rattle.controller.specs.Start.{startAt, startEstimates, startOf, started}
 use Rattle.controller.specs.Merge.{runBit, merged}
 use Rattle.controller.specs.Effects.{inPhase, begun, added, mergedIn, adopting, seated, counted, issuing, applied}
 use Rattle.controller.specs.Step.{inputsFit, stepped}
-use Rattle.controller_laws.specs.Ways.{Busy, Votes, Leads, Goes}
+use Rattle.controller_laws.specs.Phases.{Busy}
+use Rattle.controller_laws.specs.Ways.{Votes, Leads, Goes}
 use Rattle.controller_laws.specs.Ways.Votes.{another's, ours}
 use Rattle.controller_laws.specs.Ways.Leads.{refused, unchanged, begins, adds, replies, merges, updates, adopts-idle, adopts-before, adopts-past, asks, adverts, asks-and-adverts, collected, lapses, counts, open-still, behind, lacking, issues, restarts}
 use Rattle.controller_laws.specs.Ways.Goes.{out, led}
@@ -266,13 +267,13 @@ module _ (s : Numbers) (c : Controller) (fit : numbersFit s ≡ true) (v : Valid
       (getD-set-same (c .votes) (c .own) (record { ballot = Cast digest }) nobody (omega (arith, seats-length (s .group) (c .label) (c .votes) (v .votes), v .own, sized s fit .g-high)))
 
   -- the seat of the group and the legal digest of a vote that is taken in
-  vote-fits : {h : Head} {seat : ℕ} {digest : Digest} {first : Sent} → Votes c h seat digest first → headFits (s .group) h ≡ true → (seat < s .group .g) × (legal m (c .label) digest ≡ true)
+  pub vote-fits : {h : Head} {seat : ℕ} {digest : Digest} {first : Sent} → Votes c h seat digest first → headFits (s .group) h ≡ true → (seat < s .group .g) × (legal m (c .label) digest ≡ true)
   unfolding headFits
   vote-fits (another's {sender} {digest} n e f) h =
       let q = and-three (ltb sender (s .group .g)) (roundFits (c .label)) (legal m (c .label) digest) h in (ltb-true _ _ (q .0), q .2)
   vote-fits (ours e) h = (v .own, own-legal (rw e tt))
 
-  voting-own : {h : Head} {seat : ℕ} {digest : Digest} {first : Sent} → Votes c h seat digest first → Busy (c .phase) × Own Voting (getD (seated (c .votes) seat digest) (c .own) nobody .ballot)
+  pub voting-own : {h : Head} {seat : ℕ} {digest : Digest} {first : Sent} → Votes c h seat digest first → Busy (c .phase) × Own Voting (getD (seated (c .votes) seat digest) (c .own) nobody .ballot)
   voting-own (another's {sender} {digest} n e f) = (rw e tt, subst (Own Voting) (others-seat sender digest n) (own-vote Voting e))
   voting-own (ours e) = (rw e tt, own-seat (ownDigest (briefOf c)))
 
@@ -287,17 +288,17 @@ module _ (s : Numbers) (c : Controller) (fit : numbersFit s ≡ true) (v : Valid
     way-valid : {h : Head} {p : Plan} → Leads s c a h p → Told (s .group) a h → Valid s (applied s a c (p .effect))
     unfolding applied carried headFits
     way-valid (refused why e) t = v
-    way-valid unchanged t = v
+    way-valid (unchanged r) t = v
     way-valid (begins {label} {run} {raw} l k) t = begun-valid label run raw (t .head) l
-    way-valid (adds {run} {raw} e n) t = added-valid (c .label) run raw (t .head) e
-    way-valid (replies b n) t = v
-    way-valid (merges {sender} {mask} e n) t = merged-valid sender mask (a .readings) (t .head) (t .readings) e
-    way-valid (updates l) t = v
-    way-valid (adopts-idle {sender} {theirs} e l) t = adopting-valid sender theirs (a .estimates) Idle (t .head) (t .estimates) (λ b. absurd b)
-    way-valid (adopts-before {sender} {theirs} e l k) t = adopting-valid sender theirs (a .estimates) Collecting (t .head) (t .estimates) (λ b. (e, k))
-    way-valid (adopts-past {sender} {theirs} e l k) t = adopting-valid sender theirs (a .estimates) Idle (t .head) (t .estimates) (λ b. absurd b)
-    way-valid (asks e n) t = v
-    way-valid (adverts e l) t = v
+    way-valid (adds {run} {raw} e lo n) t = added-valid (c .label) run raw (t .head) e
+    way-valid (replies ne b n) t = v
+    way-valid (merges {sender} {mask} ne e n) t = merged-valid sender mask (a .readings) (t .head) (t .readings) e
+    way-valid (updates ne l) t = v
+    way-valid (adopts-idle {sender} {theirs} ne e l) t = adopting-valid sender theirs (a .estimates) Idle (t .head) (t .estimates) (λ b. absurd b)
+    way-valid (adopts-before {sender} {theirs} ne e l k) t = adopting-valid sender theirs (a .estimates) Collecting (t .head) (t .estimates) (λ b. (e, k))
+    way-valid (adopts-past {sender} {theirs} ne e l k) t = adopting-valid sender theirs (a .estimates) Idle (t .head) (t .estimates) (λ b. absurd b)
+    way-valid (asks e n lo) t = v
+    way-valid (adverts e lo l) t = v
     way-valid (asks-and-adverts e n l) t = v
     way-valid (collected e) t = go-valid Pending (λ b. rw e tt) (own-vote Collecting e)
     way-valid (lapses e) t = go-valid Idle (λ b. absurd b) tt

@@ -1,14 +1,18 @@
 -- The laws of the step.
 pub mod Ways
+pub mod OneWay
 pub mod Adding
 pub mod Masks
 pub mod Held
 pub mod Valid
+pub mod InRange
 pub mod Fits
 pub mod Refusals
 pub mod Decided
 pub mod Never
 pub mod Sendings
+pub mod Telling
+pub mod Judging
 pub mod Rises
 pub mod Changes
 pub mod Outcomes

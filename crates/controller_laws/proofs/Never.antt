@@ -29,7 +29,7 @@ use Rattle.controller_laws.specs.Ways.{ends, Leads, Goes}
 use Rattle.controller_laws.specs.Ways.Leads.{refused, unchanged, begins, adds, replies, merges, updates, adopts-idle, adopts-before, adopts-past, asks, adverts, asks-and-adverts, collected, lapses, counts, open-still, behind, lacking, issues, restarts}
 use Rattle.controller_laws.specs.Ways.Goes.{out, led}
 use Rattle.controller_laws.proofs.Decided.{decided-legal}
-use Rattle.controller_laws.proofs.Ways.{goes}
+use Rattle.controller_laws.proofs.Ways.{refuses-keeps, goes}
 
 -- a verdict with another number
 calm : (v : Verdict) → eqb (verdictNumber v) 14 ≡ false → v ≡ Denied Behind → ⊥
@@ -42,23 +42,23 @@ issue-calm e h (One one) = refl
 
 module _ (s : Numbers) (c : Controller) (a : Message) where
   -- what is decided lies before the round
-  decided-before : (seat : ℕ) (digest chosen : Digest) → decided s c seat digest ≡ Decided chosen → before (chosen .state) (c .label) ≡ true
+  pub decided-before : (seat : ℕ) (digest chosen : Digest) → decided s c seat digest ≡ Decided chosen → before (chosen .state) (c .label) ≡ true
   unfolding legal
   decided-before seat digest chosen d = and-right (leb (s .group .m) runsTop && maskFits (s .group .m) (chosen .mask)) _ (decided-legal (votesWith s c seat digest) chosen d)
 
   not-behind : {h : Head} {p : Plan} → Leads s c a h p → p .verdict ≡ Denied Behind → ⊥
-  not-behind (refused why e) q = let z : why ≡ Behind = cc in true≢false (ap ends (sym z) ∙ e)
-  not-behind unchanged q = calm Taken refl q
+  not-behind (refused why e) q = let z : why ≡ Behind = cc in true≢false (ap ends (sym z) ∙ refuses-keeps e)
+  not-behind (unchanged r) q = calm Taken refl q
   not-behind (begins l k) q = calm Taken refl q
-  not-behind (adds e n) q = calm Taken refl q
-  not-behind (replies b n) q = calm Taken refl q
-  not-behind (merges e n) q = calm Taken refl q
-  not-behind (updates l) q = calm Taken refl q
-  not-behind (adopts-idle e l) q = calm Taken refl q
-  not-behind (adopts-before e l k) q = calm Taken refl q
-  not-behind (adopts-past e l k) q = calm Taken refl q
-  not-behind (asks e n) q = calm Taken refl q
-  not-behind (adverts e l) q = calm Taken refl q
+  not-behind (adds e lo n) q = calm Taken refl q
+  not-behind (replies ne b n) q = calm Taken refl q
+  not-behind (merges ne e n) q = calm Taken refl q
+  not-behind (updates ne l) q = calm Taken refl q
+  not-behind (adopts-idle ne e l) q = calm Taken refl q
+  not-behind (adopts-before ne e l k) q = calm Taken refl q
+  not-behind (adopts-past ne e l k) q = calm Taken refl q
+  not-behind (asks e n lo) q = calm Taken refl q
+  not-behind (adverts e lo l) q = calm Taken refl q
   not-behind (asks-and-adverts e n l) q = calm Taken refl q
   not-behind (collected e) q = calm Taken refl q
   not-behind (lapses e) q = calm (Denied Undecided) refl q

@@ -60,17 +60,17 @@ module _ (s : Numbers) (c : Controller) (a : Message) where
   way-by : {h : Head} {p : Plan} → Leads s c a h p → AllBy h p
   unfolding applied
   way-by (refused why e) = (tt, tt)
-  way-by unchanged = (tt, tt)
+  way-by (unchanged r) = (tt, tt)
   way-by (begins l k) = (tt, tt)
-  way-by (adds e n) = (tt, tt)
-  way-by (replies {mask = mask} b n) = (reply mask refl, tt)
-  way-by (merges e n) = (tt, tt)
-  way-by (updates l) = (update refl, tt)
-  way-by (adopts-idle e l) = (tt, tt)
-  way-by (adopts-before e l k) = (tt, tt)
-  way-by (adopts-past e l k) = (tt, tt)
-  way-by (asks e n) = (query refl, tt)
-  way-by (adverts e l) = (advert refl, tt)
+  way-by (adds e lo n) = (tt, tt)
+  way-by (replies {mask = mask} ne b n) = (reply mask refl, tt)
+  way-by (merges ne e n) = (tt, tt)
+  way-by (updates ne l) = (update refl, tt)
+  way-by (adopts-idle ne e l) = (tt, tt)
+  way-by (adopts-before ne e l k) = (tt, tt)
+  way-by (adopts-past ne e l k) = (tt, tt)
+  way-by (asks e n lo) = (query refl, tt)
+  way-by (adverts e lo l) = (advert refl, tt)
   way-by (asks-and-adverts e n l) = (query refl, advert refl)
   way-by (collected e) = (floor e, tt)
   way-by (lapses e) = (tt, tt)
@@ -102,17 +102,17 @@ module _ (s : Numbers) (c : Controller) (a : Message) where
   way-state : {h : Head} {p : Plan} → Leads s c a h p → a .head ≡ h → StateBy s c a (carriedOut s c a p)
   unfolding applied startOf
   way-state (refused why e) u = kept refl refl
-  way-state unchanged u = kept refl refl
+  way-state (unchanged r) u = kept refl refl
   way-state (begins b g) u = kept refl refl
-  way-state (adds e g) u = kept refl refl
-  way-state (replies b g) u = kept refl refl
-  way-state (merges e g) u = kept refl refl
-  way-state (updates g) u = kept refl refl
-  way-state (adopts-idle {sender} e l) u = adopted sender u refl
-  way-state (adopts-before {sender} e l k) u = adopted sender u refl
-  way-state (adopts-past {sender} e l k) u = adopted sender u refl
-  way-state (asks e g) u = kept refl refl
-  way-state (adverts e g) u = kept refl refl
+  way-state (adds e lo g) u = kept refl refl
+  way-state (replies ne b g) u = kept refl refl
+  way-state (merges ne e g) u = kept refl refl
+  way-state (updates ne g) u = kept refl refl
+  way-state (adopts-idle {sender} ne e l) u = adopted sender u refl
+  way-state (adopts-before {sender} ne e l k) u = adopted sender u refl
+  way-state (adopts-past {sender} ne e l k) u = adopted sender u refl
+  way-state (asks e g lo) u = kept refl refl
+  way-state (adverts e lo g) u = kept refl refl
   way-state (asks-and-adverts e g b) u = kept refl refl
   way-state (collected e) u = kept refl refl
   way-state (lapses e) u = kept refl refl

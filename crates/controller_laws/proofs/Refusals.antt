@@ -3,6 +3,7 @@ use Prim.Native.Nat.{ℕ}
 use native.Mathlib.Omega.{arith}
 use mathlib.Core.Path.{_≡_, refl, sym, ap, subst, _∙_}
 use mathlib.Core.Bool.{true, false, true≢false}
+use mathlib.Core.Logic.{_⊎_, inl, inr}
 use Rattle.units.specs.declared.refusal.Refusal.{Refusal}
 use Rattle.units.specs.declared.refusal.Refusal.the-variants.{Range, Undecided, Lacking, Behind}
 use Rattle.units.specs.declared.refusal.Verdict.the-variants.{Taken, Refused as Denied}
@@ -17,13 +18,14 @@ use Rattle.plan.specs.Plan.{afterwards}
 use Rattle.controller.specs.declared.state.Controller.{Controller}
 use Rattle.controller.specs.declared.step.Answer.{Answer}
 use Rattle.controller.specs.Effects.{applied}
-use Rattle.controller.specs.Step.{carriedOut, stepped}
+use Rattle.controller.specs.Step.{inputsFit, carriedOut, stepped}
 use Rattle.controller_laws.specs.Endings.{refusedOnly, Ended}
 use Rattle.controller_laws.specs.Endings.Ended.{by-time, by-lack, by-age}
+use Rattle.controller_laws.specs.Reasons.{Refuses}
 use Rattle.controller_laws.specs.Ways.{ends, Leads, Goes}
 use Rattle.controller_laws.specs.Ways.Leads.{refused, unchanged, begins, adds, replies, merges, updates, adopts-idle, adopts-before, adopts-past, asks, adverts, asks-and-adverts, collected, lapses, counts, open-still, behind, lacking, issues, restarts}
 use Rattle.controller_laws.specs.Ways.Goes.{out, led}
-use Rattle.controller_laws.proofs.Ways.{goes}
+use Rattle.controller_laws.proofs.Ways.{refuses-keeps, goes}
 
 pub not-taken : {A : Type 0} {why : Refusal} → Taken ≡ Denied why → A
 not-taken p = let z : _≡_ {A = ℕ} 0 1 = cc in absurd (omega arith)
@@ -44,17 +46,17 @@ module _ (s : Numbers) (c : Controller) (a : Message) (why : Refusal) where
   keeps : {h : Head} {p : Plan} → Leads s c a h p → p .verdict ≡ Denied why → ends why ≡ false → carriedOut s c a p ≡ refusedOnly c why
   unfolding applied
   keeps (refused w e) q n = λ i. record { next = c; first = Nothing; second = Nothing; verdict = q i }
-  keeps unchanged q n = not-taken q
+  keeps (unchanged r) q n = not-taken q
   keeps (begins l k) q n = not-taken q
-  keeps (adds e k) q n = not-taken q
-  keeps (replies b k) q n = not-taken q
-  keeps (merges e k) q n = not-taken q
-  keeps (updates l) q n = not-taken q
-  keeps (adopts-idle e l) q n = not-taken q
-  keeps (adopts-before e l k) q n = not-taken q
-  keeps (adopts-past e l k) q n = not-taken q
-  keeps (asks e k) q n = not-taken q
-  keeps (adverts e l) q n = not-taken q
+  keeps (adds e lo k) q n = not-taken q
+  keeps (replies ne b k) q n = not-taken q
+  keeps (merges ne e k) q n = not-taken q
+  keeps (updates ne l) q n = not-taken q
+  keeps (adopts-idle ne e l) q n = not-taken q
+  keeps (adopts-before ne e l k) q n = not-taken q
+  keeps (adopts-past ne e l k) q n = not-taken q
+  keeps (asks e k lo) q n = not-taken q
+  keeps (adverts e lo l) q n = not-taken q
   keeps (asks-and-adverts e k l) q n = not-taken q
   keeps (collected e) q n = not-taken q
   keeps (lapses e) q n = not-both {w = Undecided} q refl n
@@ -78,18 +80,18 @@ module _ (s : Numbers) (c : Controller) (a : Message) (why : Refusal) where
 
   ending : {h : Head} {p : Plan} → Leads s c a h p → p .verdict ≡ Denied why → ends why ≡ true → Ended c h why (carriedOut s c a p)
   unfolding applied
-  ending (refused w e) q n = not-both (sym q) n e
-  ending unchanged q n = not-taken q
+  ending (refused w e) q n = not-both (sym q) n (refuses-keeps e)
+  ending (unchanged r) q n = not-taken q
   ending (begins l k) q n = not-taken q
-  ending (adds e k) q n = not-taken q
-  ending (replies b k) q n = not-taken q
-  ending (merges e k) q n = not-taken q
-  ending (updates l) q n = not-taken q
-  ending (adopts-idle e l) q n = not-taken q
-  ending (adopts-before e l k) q n = not-taken q
-  ending (adopts-past e l k) q n = not-taken q
-  ending (asks e k) q n = not-taken q
-  ending (adverts e l) q n = not-taken q
+  ending (adds e lo k) q n = not-taken q
+  ending (replies ne b k) q n = not-taken q
+  ending (merges ne e k) q n = not-taken q
+  ending (updates ne l) q n = not-taken q
+  ending (adopts-idle ne e l) q n = not-taken q
+  ending (adopts-before ne e l k) q n = not-taken q
+  ending (adopts-past ne e l k) q n = not-taken q
+  ending (asks e k lo) q n = not-taken q
+  ending (adverts e lo l) q n = not-taken q
   ending (asks-and-adverts e k l) q n = not-taken q
   ending (collected e) q n = not-taken q
   ending (lapses e) q n = named q (by-time e)
@@ -107,3 +109,35 @@ module _ (s : Numbers) (c : Controller) (a : Message) (why : Refusal) where
       way : {r : Answer} → Goes s c a r → r .verdict ≡ Denied why → Ended c (a .head) why r
       way (out e) p = not-both {w = why} {why = Range} (sym p) n refl
       way (led e w) p = ending w p n
+
+  -- ---- why a message is refused
+  said-why : {h : Head} {p : Plan} → Leads s c a h p → p .verdict ≡ Denied why → ends why ≡ false → Refuses c a h why
+  said-why {h} (refused w e) q n = subst (λ (x : Refusal). Refuses c a h x) (same-why q) e
+  said-why (unchanged r) q n = not-taken q
+  said-why (begins l k) q n = not-taken q
+  said-why (adds e b k) q n = not-taken q
+  said-why (replies ne b k) q n = not-taken q
+  said-why (merges ne e k) q n = not-taken q
+  said-why (updates ne l) q n = not-taken q
+  said-why (adopts-idle ne e l) q n = not-taken q
+  said-why (adopts-before ne e l k) q n = not-taken q
+  said-why (adopts-past ne e l k) q n = not-taken q
+  said-why (asks e k l) q n = not-taken q
+  said-why (adverts e k l) q n = not-taken q
+  said-why (asks-and-adverts e k l) q n = not-taken q
+  said-why (collected e) q n = not-taken q
+  said-why (lapses e) q n = not-both {w = Undecided} q refl n
+  said-why (counts k e f) q n = not-taken q
+  said-why (open-still w d) q n = not-taken q
+  said-why (behind w d b) q n = not-both {w = Behind} q refl n
+  said-why (lacking w d b k) q n = not-both {w = Lacking} q refl n
+  said-why (issues w d b k) q n = not-taken (sym (issue-taken _ _ _) ∙ q)
+  said-why restarts q n = not-taken q
+
+  -- every refusal but 12, 13 and 14 has its reason: 6 and something out of range, or one of document 01's table
+  pub refused-for : stepped s c a .verdict ≡ Denied why → ends why ≡ false → ((why ≡ Range) × (inputsFit s c a ≡ false)) ⊎ ((inputsFit s c a ≡ true) × Refuses c a (a .head) why)
+  refused-for q n = way (goes s c a) q
+    where
+      way : {r : Answer} → Goes s c a r → r .verdict ≡ Denied why → ((why ≡ Range) × (inputsFit s c a ≡ false)) ⊎ ((inputsFit s c a ≡ true) × Refuses c a (a .head) why)
+      way (out e) p = inl (sym (same-why p), e)
+      way (led e w) p = inr (e, said-why w p n)

@@ -26,7 +26,8 @@ use Rattle.controller.specs.State.{briefOf}
 use Rattle.controller.specs.Effects.{applied}
 use Rattle.controller.specs.Step.{stepped}
 use Rattle.controller_laws.specs.Changes.{NoStart}
-use Rattle.controller_laws.specs.Ways.{Early, Leads, Goes}
+use Rattle.controller_laws.specs.Phases.{Early}
+use Rattle.controller_laws.specs.Ways.{Leads, Goes}
 use Rattle.controller_laws.specs.Ways.Leads.{refused, unchanged, begins, adds, replies, merges, updates, adopts-idle, adopts-before, adopts-past, asks, adverts, asks-and-adverts, collected, lapses, counts, open-still, behind, lacking, issues, restarts}
 use Rattle.controller_laws.specs.Ways.Goes.{out, led}
 use Rattle.controller_laws.proofs.Ways.{goes}
@@ -57,17 +58,17 @@ module _ (s : Numbers) (c : Controller) (a : Message) where
   rises : {h : Head} {p : Plan} → Leads s c a h p → NoStart h → Rises c (applied s a c (p .effect))
   unfolding applied
   rises (refused why e) n = as-it-was c
-  rises unchanged n = as-it-was c
+  rises (unchanged r) n = as-it-was c
   rises (begins l k) n = record { own = refl; label = le-of-lt k; state = le-refl _; early = λ e. inl k }
-  rises (adds e k) n = record { own = refl; label = le-refl _; state = le-refl _; early = λ z. inr z }
-  rises (replies b k) n = as-it-was c
-  rises (merges e k) n = record { own = refl; label = le-refl _; state = le-refl _; early = λ z. inr z }
-  rises (updates l) n = as-it-was c
-  rises (adopts-idle e l) n = record { own = refl; label = le-refl _; state = le-of-lt l; early = λ z. absurd z }
-  rises (adopts-before e l k) n = record { own = refl; label = le-refl _; state = le-of-lt l; early = λ z. inr (rw e tt) }
-  rises (adopts-past e l k) n = record { own = refl; label = le-refl _; state = le-of-lt l; early = λ z. absurd z }
-  rises (asks e k) n = as-it-was c
-  rises (adverts e l) n = as-it-was c
+  rises (adds e lo k) n = record { own = refl; label = le-refl _; state = le-refl _; early = λ z. inr z }
+  rises (replies ne b k) n = as-it-was c
+  rises (merges ne e k) n = record { own = refl; label = le-refl _; state = le-refl _; early = λ z. inr z }
+  rises (updates ne l) n = as-it-was c
+  rises (adopts-idle ne e l) n = record { own = refl; label = le-refl _; state = le-of-lt l; early = λ z. absurd z }
+  rises (adopts-before ne e l k) n = record { own = refl; label = le-refl _; state = le-of-lt l; early = λ z. inr (rw e tt) }
+  rises (adopts-past ne e l k) n = record { own = refl; label = le-refl _; state = le-of-lt l; early = λ z. absurd z }
+  rises (asks e k lo) n = as-it-was c
+  rises (adverts e lo l) n = as-it-was c
   rises (asks-and-adverts e k l) n = as-it-was c
   rises (collected e) n = record { own = refl; label = le-refl _; state = le-refl _; early = λ z. inr (rw e tt) }
   rises (lapses e) n = record { own = refl; label = le-refl _; state = le-refl _; early = λ z. absurd z }

@@ -44,7 +44,8 @@ use Rattle.controller.specs.Sent.{withReadings, withEstimates, withTargets, sen
 use Rattle.controller.specs.Step.{decided, votesWith, stepped}
 use Rattle.controller_laws.specs.Sendings.{IsSent, MaySend, OnSent, IsVote, Voted}
 use Rattle.controller_laws.specs.Sendings.MaySend.{reply, update, query, advert, floor, vote, setpoints}
-use Rattle.controller_laws.specs.Ways.{Busy, Early, Votes, Leads, Goes}
+use Rattle.controller_laws.specs.Phases.{Busy, Early}
+use Rattle.controller_laws.specs.Ways.{Votes, Leads, Goes}
 use Rattle.controller_laws.specs.Ways.Votes.{another's, ours}
 use Rattle.controller_laws.specs.Ways.Leads.{refused, unchanged, begins, adds, replies, merges, updates, adopts-idle, adopts-before, adopts-past, asks, adverts, asks-and-adverts, collected, lapses, counts, open-still, behind, lacking, issues, restarts}
 use Rattle.controller_laws.specs.Ways.Goes.{out, led}
@@ -92,7 +93,7 @@ module _ (s : Numbers) (c : Controller) (fit : numbersFit s ≡ true) (v : Valid
   sender : (x : Bool) → x ≡ true → (lib.Dec.ltb (c .own) (s .group .g) && x) ≡ true
   sender x h = and-both (lt-ltb _ _ (v .own)) h
 
-  round : Busy (c .phase) → roundFits (c .label) ≡ true
+  pub round : Busy (c .phase) → roundFits (c .label) ≡ true
   round b =
       let q = legal-facts m (c .label) (ownDigest (briefOf c)) (own-legal s c fit v b) in
       and-both (le-leb 1 (c .label .0) (omega (arith, q .older))) (le-leb (c .label .0) labelTop (v .label))
@@ -155,17 +156,17 @@ module _ (s : Numbers) (c : Controller) (fit : numbersFit s ≡ true) (v : Valid
     way-ready : {h : Head} {p : Plan} → Leads s c a h p → AllReady p
     unfolding applied
     way-ready (refused why e) = (tt, tt)
-    way-ready unchanged = (tt, tt)
+    way-ready (unchanged r) = (tt, tt)
     way-ready (begins l k) = (tt, tt)
-    way-ready (adds e n) = (tt, tt)
-    way-ready (replies {mask = mask} b n) = (reply-ready mask b n, tt)
-    way-ready (merges e n) = (tt, tt)
-    way-ready (updates l) = (update-ready, tt)
-    way-ready (adopts-idle e l) = (tt, tt)
-    way-ready (adopts-before e l k) = (tt, tt)
-    way-ready (adopts-past e l k) = (tt, tt)
-    way-ready (asks e n) = (query-ready (rw e tt) n, tt)
-    way-ready (adverts e l) = (advert-ready, tt)
+    way-ready (adds e lo n) = (tt, tt)
+    way-ready (replies {mask = mask} ne b n) = (reply-ready mask b n, tt)
+    way-ready (merges ne e n) = (tt, tt)
+    way-ready (updates ne l) = (update-ready, tt)
+    way-ready (adopts-idle ne e l) = (tt, tt)
+    way-ready (adopts-before ne e l k) = (tt, tt)
+    way-ready (adopts-past ne e l k) = (tt, tt)
+    way-ready (asks e n lo) = (query-ready (rw e tt) n, tt)
+    way-ready (adverts e lo l) = (advert-ready, tt)
     way-ready (asks-and-adverts e n l) = (query-ready (rw e tt) n, advert-ready)
     way-ready (collected e) = (floor-ready _ (rw e tt), tt)
     way-ready (lapses e) = (tt, tt)
@@ -176,7 +177,7 @@ module _ (s : Numbers) (c : Controller) (fit : numbersFit s ≡ true) (v : Valid
     way-ready (issues {chosen = chosen} w d b n) = issue-ready chosen w d
     way-ready restarts = (tt, tt)
 
-none-sent : {A : Type 0} {head : Head} → Nothing ≡ One head → A
+pub none-sent : {A : Type 0} {head : Head} → Nothing ≡ One head → A
 none-sent q = let z : _≡_ {A = ℕ} 0 1 = cc in absurd (omega arith)
 
 -- what holds of all that an answer sends holds of one of its messages
@@ -208,17 +209,17 @@ module _ (s : Numbers) (c : Controller) (a : Message) where
 
   way-may : {h : Head} {p : Plan} → Leads s c a h p → AllMay h p
   way-may (refused why e) = (tt, tt)
-  way-may unchanged = (tt, tt)
+  way-may (unchanged r) = (tt, tt)
   way-may (begins l k) = (tt, tt)
-  way-may (adds e n) = (tt, tt)
-  way-may (replies b n) = (reply b, tt)
-  way-may (merges e n) = (tt, tt)
-  way-may (updates l) = (update l, tt)
-  way-may (adopts-idle e l) = (tt, tt)
-  way-may (adopts-before e l k) = (tt, tt)
-  way-may (adopts-past e l k) = (tt, tt)
-  way-may (asks e n) = (query e, tt)
-  way-may (adverts e l) = (advert e, tt)
+  way-may (adds e lo n) = (tt, tt)
+  way-may (replies ne b n) = (reply b, tt)
+  way-may (merges ne e n) = (tt, tt)
+  way-may (updates ne l) = (update l, tt)
+  way-may (adopts-idle ne e l) = (tt, tt)
+  way-may (adopts-before ne e l k) = (tt, tt)
+  way-may (adopts-past ne e l k) = (tt, tt)
+  way-may (asks e n lo) = (query e, tt)
+  way-may (adverts e lo l) = (advert e, tt)
   way-may (asks-and-adverts e n l) = (query e, advert e)
   way-may (collected e) = (floor e, tt)
   way-may (lapses e) = (tt, tt)
@@ -241,17 +242,17 @@ module _ (s : Numbers) (c : Controller) (a : Message) where
   in-order : {h : Head} {p : Plan} → Leads s c a h p → p .first ≡ Nothing → p .second ≡ Nothing
   unfolding afterwards
   in-order (refused why e) q = refl
-  in-order unchanged q = refl
+  in-order (unchanged r) q = refl
   in-order (begins l k) q = refl
-  in-order (adds e n) q = refl
-  in-order (replies b n) q = refl
-  in-order (merges e n) q = refl
-  in-order (updates l) q = refl
-  in-order (adopts-idle e l) q = refl
-  in-order (adopts-before e l k) q = refl
-  in-order (adopts-past e l k) q = refl
-  in-order (asks e n) q = refl
-  in-order (adverts e l) q = refl
+  in-order (adds e lo n) q = refl
+  in-order (replies ne b n) q = refl
+  in-order (merges ne e n) q = refl
+  in-order (updates ne l) q = refl
+  in-order (adopts-idle ne e l) q = refl
+  in-order (adopts-before ne e l k) q = refl
+  in-order (adopts-past ne e l k) q = refl
+  in-order (asks e n lo) q = refl
+  in-order (adverts e lo l) q = refl
   in-order (asks-and-adverts e n l) q = let z : _≡_ {A = ℕ} 0 1 = cc in absurd (omega arith)
   in-order (collected e) q = refl
   in-order (lapses e) q = refl
@@ -274,17 +275,17 @@ module _ (s : Numbers) (c : Controller) (a : Message) where
   two-led : {h : Head} {p : Plan} → Leads s c a h p → (head : Head) → p .second ≡ One head → p .verdict ≡ Taken
   unfolding afterwards
   two-led (refused why e) head q = none-sent q
-  two-led unchanged head q = none-sent q
+  two-led (unchanged r) head q = none-sent q
   two-led (begins l k) head q = none-sent q
-  two-led (adds e n) head q = none-sent q
-  two-led (replies b n) head q = none-sent q
-  two-led (merges e n) head q = none-sent q
-  two-led (updates l) head q = none-sent q
-  two-led (adopts-idle e l) head q = none-sent q
-  two-led (adopts-before e l k) head q = none-sent q
-  two-led (adopts-past e l k) head q = none-sent q
-  two-led (asks e n) head q = none-sent q
-  two-led (adverts e l) head q = none-sent q
+  two-led (adds e lo n) head q = none-sent q
+  two-led (replies ne b n) head q = none-sent q
+  two-led (merges ne e n) head q = none-sent q
+  two-led (updates ne l) head q = none-sent q
+  two-led (adopts-idle ne e l) head q = none-sent q
+  two-led (adopts-before ne e l k) head q = none-sent q
+  two-led (adopts-past ne e l k) head q = none-sent q
+  two-led (asks e n lo) head q = none-sent q
+  two-led (adverts e lo l) head q = none-sent q
   two-led (asks-and-adverts e n l) head q = refl
   two-led (collected e) head q = none-sent q
   two-led (lapses e) head q = none-sent q
@@ -322,17 +323,17 @@ module _ (s : Numbers) (c : Controller) (a : Message) where
   way-once : {h : Head} {p : Plan} → Leads s c a h p → Once h p
   unfolding applied
   way-once (refused why e) = (tt, tt)
-  way-once unchanged = (tt, tt)
+  way-once (unchanged r) = (tt, tt)
   way-once (begins l k) = (tt, tt)
-  way-once (adds e n) = (tt, tt)
-  way-once (replies b n) = (λ z. absurd z, tt)
-  way-once (merges e n) = (tt, tt)
-  way-once (updates l) = (λ z. absurd z, tt)
-  way-once (adopts-idle e l) = (tt, tt)
-  way-once (adopts-before e l k) = (tt, tt)
-  way-once (adopts-past e l k) = (tt, tt)
-  way-once (asks e n) = (λ z. absurd z, tt)
-  way-once (adverts e l) = (λ z. absurd z, tt)
+  way-once (adds e lo n) = (tt, tt)
+  way-once (replies ne b n) = (λ z. absurd z, tt)
+  way-once (merges ne e n) = (tt, tt)
+  way-once (updates ne l) = (λ z. absurd z, tt)
+  way-once (adopts-idle ne e l) = (tt, tt)
+  way-once (adopts-before ne e l k) = (tt, tt)
+  way-once (adopts-past ne e l k) = (tt, tt)
+  way-once (asks e n lo) = (λ z. absurd z, tt)
+  way-once (adverts e lo l) = (λ z. absurd z, tt)
   way-once (asks-and-adverts e n l) = (λ z. absurd z, λ z. absurd z)
   way-once (collected e) = (λ z. absurd z, tt)
   way-once (lapses e) = (tt, tt)

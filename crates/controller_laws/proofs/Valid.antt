@@ -34,7 +34,7 @@ use Rattle.plan.specs.Votes.{ownDigest}
 use Rattle.controller.specs.declared.state.Controller.{Controller}
 use Rattle.controller.specs.State.{briefOf, nobody, ballotAt, cast, phaseFits, controllerFits}
 use Rattle.controller.specs.Effects.{seated}
-use Rattle.controller_laws.specs.Ways.{Busy}
+use Rattle.controller_laws.specs.Phases.{Busy}
 
 pub five : (a b c d e : Bool) → (a && b && c && d && e) ≡ true → (a ≡ true) × (b ≡ true) × (c ≡ true) × (d ≡ true) × (e ≡ true)
 five a b c d e p =
@@ -105,7 +105,7 @@ module _ (s : Group) (label : RoundLabel) (votes : List Seat) where
   unfolding seatsFit
   seats-length h = eqb-true _ _ (and-left (eqb (length votes) 7) _ h)
 
-  seats-place : seatsFit s label votes ≡ true → (i : ℕ) → i < 7 → seatAt s label votes i ≡ true
+  pub seats-place : seatsFit s label votes ≡ true → (i : ℕ) → i < 7 → seatAt s label votes i ≡ true
   unfolding seatsFit
   seats-place h i k = every-at (seatAt s label votes) 7 i (and-right (eqb (length votes) 7) _ h) k
 

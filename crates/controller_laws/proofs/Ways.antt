@@ -1,14 +1,15 @@
 -- Every step goes one of the ways of specs/Ways.antt. Assumes nothing.
 use Prim.Native.Nat.{ℕ, _<_}
-use mathlib.Core.Path.{_≡_, refl, sym, subst}
-use mathlib.Core.Bool.{Bool, true, false, not}
+use mathlib.Core.Path.{_≡_, refl, sym, ap, subst, _∙_}
+use mathlib.Core.Bool.{Bool, true, false, not, true≢false}
 use native.Mathlib.Omega.{arith}
 use lib.Bits.{bitAnd}
 use lib.Dec.{eqb, ltb}
 use lib.ListN.{getD}
-use borrow.Author.Tests.{ltb-true, ltb-false, eqb-true, eqb-false, not-true, not-false}
+use borrow.Author.Tests.{ltb-true, ltb-false, eqb-true, eqb-false, eq-eqb, not-true, not-false}
 use Rattle.units.specs.declared.labels.RoundLabel.{RoundLabel}
 use Rattle.units.specs.declared.labels.StateLabel.{StateLabel}
+use Rattle.units.specs.declared.refusal.Refusal.{Refusal}
 use Rattle.units.specs.declared.refusal.Refusal.the-variants.{Kind, Own, Late, Closed, Other, Clash}
 use Rattle.units.specs.declared.settings.Numbers.{Numbers}
 use Rattle.units.specs.Labels.{before, justBefore}
@@ -21,7 +22,7 @@ use Rattle.vote.specs.declared.judge.Decision.the-variants.{Undecided, Decided,
 use Rattle.vote.specs.declared.votes.Ballot.{Ballot}
 use Rattle.vote.specs.declared.votes.Ballot.the-variants.{Missing, Cast}
 use Rattle.vote.specs.Digest.{same}
-use Rattle.vote.proofs.Order.{same-true}
+use Rattle.vote.proofs.Order.{same-true, same-refl}
 use Rattle.message.specs.declared.head.Head.{Head}
 use Rattle.message.specs.declared.head.Head.the-variants.{Reading, Query, Reply, Advert, Update, Vote, Setpoints, Due, CollectingEnds, VotingEnds, Floor, Start, Refused}
 use Rattle.message.specs.declared.value.Message.{Message}
@@ -30,7 +31,7 @@ use Rattle.plan.specs.declared.brief.Phase.the-variants.{Idle, Collecting, Pend
 use Rattle.plan.specs.declared.planned.Effect.the-variants.{Keep, Adopt, Count}
 use Rattle.plan.specs.declared.planned.Plan.{Plan}
 use Rattle.plan.specs.declared.planned.Sent.{Sent}
-use Rattle.plan.specs.Plan.{refuse, does}
+use Rattle.plan.specs.Plan.{refuse, does, sends}
 use Rattle.plan.specs.Readings
 use Rattle.plan.specs.Readings.{sameRound, planReading, answered, inQuery, planQuery, inReply, planReply}
 use Rattle.plan.specs.States.{planAdvert, overtaken, adopted, inUpdate, planUpdate, planSetpoints}
@@ -39,7 +40,16 @@ use Rattle.plan.specs.Votes.{inFloor, planFloor, inSeat, inDigest, planDigest, 
 use Rattle.controller.specs.declared.state.Controller.{Controller}
 use Rattle.controller.specs.State.{briefOf, ballotAt}
 use Rattle.controller.specs.Step.{decided, judgedIn, judgedPlan, votePlan, clashing, planned, inputsFit, stepped}
-use Rattle.controller_laws.specs.Ways.{Busy, Free, Votes, Leads, Goes}
+use Rattle.controller_laws.specs.Phases.{Busy, Open, Fixed, Free}
+use Rattle.controller_laws.specs.Reasons.{Mine, TooLate, OtherLabel, Shut, Clashed, Refuses, Rests}
+use Rattle.controller_laws.specs.Reasons.Mine.{my-query, my-reply, my-advert, my-update, my-vote, my-setpoints}
+use Rattle.controller_laws.specs.Reasons.TooLate.{stale, below, idle}
+use Rattle.controller_laws.specs.Reasons.OtherLabel.{other-query, other-reply, other-vote, other-due, other-collecting-ends, other-voting-ends, other-floor}
+use Rattle.controller_laws.specs.Reasons.Shut.{shut-reading, shut-query, shut-reply, shut-update, shut-vote, shut-setpoints, shut-due, shut-collecting-ends, shut-voting-ends, shut-floor}
+use Rattle.controller_laws.specs.Reasons.Clashed.{by-reading, by-reply, by-update, by-digest}
+use Rattle.controller_laws.specs.Reasons.Refuses.{is-unknown, is-own, is-late, is-other, is-closed, is-clash}
+use Rattle.controller_laws.specs.Reasons.Rests.{known, none-held, not-below, lower, equal, none-due}
+use Rattle.controller_laws.specs.Ways.{ends, Votes, Leads, Goes}
 use Rattle.controller_laws.specs.Ways.Votes.{another's, ours}
 use Rattle.controller_laws.specs.Ways.Leads.{refused, unchanged, begins, adds, replies, merges, updates, adopts-idle, adopts-before, adopts-past, asks, adverts, asks-and-adverts, collected, lapses, counts, open-still, behind, lacking, issues, restarts}
 use Rattle.controller_laws.specs.Ways.Goes.{out, led}
@@ -56,110 +66,145 @@ same-round l k e = λ i. record { 0 = e i }
 pub same-state : (l k : StateLabel) → l .0 ≡ k .0 → l ≡ k
 same-state l k e = λ i. record { 0 = e i }
 
+-- labels that the test tells apart
+another : (l k : RoundLabel) → not (eqb (l .0) (k .0)) ≡ true → l ≡ k → ⊥
+another l k e q = eqb-false _ _ (not-true _ e) (ap (λ (x : RoundLabel). x .0) q)
+
+-- a phase is not two at once
+abbrev place : Phase → ℕ
+place Idle = 0
+place Collecting = 1
+place Pending = 2
+place Voting = 3
+
+not-in : {x : Phase} (p q : Phase) → x ≡ p → eqb (place p) (place q) ≡ false → x ≡ q → ⊥
+not-in p q e n k = true≢false (sym (eq-eqb _ _ (ap place (sym e ∙ k))) ∙ n)
+
+-- none of these refusals ends the round
+pub refuses-keeps : {c : Controller} {a : Message} {h : Head} {why : Refusal} → Refuses c a h why → ends why ≡ false
+refuses-keeps is-unknown = refl
+refuses-keeps (is-own m) = refl
+refuses-keeps (is-late l) = refl
+refuses-keeps (is-other o) = refl
+refuses-keeps (is-closed q) = refl
+refuses-keeps (is-clash k) = refl
+
 module _ (s : Numbers) (c : Controller) (a : Message) where
   abbrev To : Head → Plan → Type 0
   To h = Leads s c a h
 
   -- the sender's and the label's tests
-  theirs : (h : Head) (j : ℕ) {p : Plan} → ((j ≡ c .own → ⊥) → To h p) → To h (pick (eqb j (c .own)) (refuse Own) p)
-  theirs h j f = on-pick (To h) (eqb j (c .own)) (λ _. refused Own refl) (λ e. f (eqb-false j (c .own) e))
+  theirs : (h : ℕ → Head) → Mine c (h (c .own)) → (j : ℕ) {p : Plan} → ((j ≡ c .own → ⊥) → To (h j) p) → To (h j) (pick (eqb j (c .own)) (refuse Own) p)
+  theirs h m j f =
+      on-pick (To (h j)) (eqb j (c .own)) (λ e. subst (λ (k : ℕ). To (h k) (refuse Own)) (sym (eqb-true _ _ e)) (refused Own (is-own m)))
+      (λ e. f (eqb-false j (c .own) e))
 
-  module _ (h : RoundLabel → Head) where
-    current : (l : RoundLabel) {p : Plan} → To (h (c .label)) p → To (h l) (pick (not (eqb (l .0) (c .label .0))) (refuse Other) p)
-    current l {p} f =
-        on-pick (To (h l)) (not (eqb (l .0) (c .label .0))) (λ _. refused Other refl)
+  module _ (h : RoundLabel → Head) (l : RoundLabel) where
+    current : ((l ≡ c .label → ⊥) → OtherLabel c (h l)) → {p : Plan} → To (h (c .label)) p → To (h l) (pick (not (eqb (l .0) (c .label .0))) (refuse Other) p)
+    current o {p} f =
+        on-pick (To (h l)) (not (eqb (l .0) (c .label .0))) (λ e. refused Other (is-other (o (another l (c .label) e))))
         (λ e. subst (λ (k : RoundLabel). To (h k) p) (sym (same-round l (c .label) (eqb-true _ _ (not-false _ e)))) f)
 
   -- ---- M, Q, R
-  collected-way : (here run raw : ℕ) → c .phase ≡ Collecting → To (Reading (c .label) run raw) (Readings.collected (briefOf c) here run raw)
+  collected-way : (run raw : ℕ) → c .phase ≡ Collecting → c .state .0 < c .label .0
+      → To (Reading (c .label) run raw) (Readings.collected (briefOf c) (getD (c .readings) run 0) run raw)
   unfolding Readings.collected
-  collected-way here run raw e =
-      on-pick (To _) (inMask (c .held) run) (λ _. on-pick (To _) (eqb here raw) (λ _. unchanged) (λ _. refused Clash refl)) (λ n. adds e n)
+  collected-way run raw e b =
+      on-pick (To _) (inMask (c .held) run)
+      (λ h. on-pick (To _) (eqb (getD (c .readings) run 0) raw) (λ k. unchanged (known e b h (eqb-true _ _ k))) (λ k. refused Clash (is-clash (by-reading e b h (eqb-false _ _ k)))))
+      (λ n. adds e b n)
 
-  same-way : (here run raw : ℕ) (phase : Phase) → c .phase ≡ phase → To (Reading (c .label) run raw) (sameRound (briefOf c) here run raw phase)
+  same-way : (run raw : ℕ) (phase : Phase) → c .phase ≡ phase → c .state .0 < c .label .0
+      → To (Reading (c .label) run raw) (sameRound (briefOf c) (getD (c .readings) run 0) run raw phase)
   unfolding sameRound
-  same-way here run raw Idle e = refused Late refl
-  same-way here run raw Collecting e = collected-way here run raw e
-  same-way here run raw Pending e = refused Closed refl
-  same-way here run raw Voting e = refused Closed refl
+  same-way run raw Idle e b = refused Late (is-late (idle refl e))
+  same-way run raw Collecting e b = collected-way run raw e b
+  same-way run raw Pending e b = refused Closed (is-closed (shut-reading b (rw e tt)))
+  same-way run raw Voting e b = refused Closed (is-closed (shut-reading b (rw e tt)))
 
-  reading-way : (here : ℕ) (label : RoundLabel) (run raw : ℕ) → To (Reading label run raw) (planReading (briefOf c) here label run raw)
+  reading-way : (label : RoundLabel) (run raw : ℕ) → To (Reading label run raw) (planReading (briefOf c) (getD (c .readings) run 0) label run raw)
   unfolding planReading
-  reading-way here label run raw =
-      on-pick (To _) (not (before (c .state) label)) (λ _. refused Late refl)
-      (λ above. on-pick (To _) (ltb (label .0) (c .label .0)) (λ _. refused Late refl)
+  reading-way label run raw =
+      on-pick (To _) (not (before (c .state) label)) (λ n. refused Late (is-late (stale (ltb-false _ _ (not-true _ n)))))
+      (λ above. on-pick (To _) (ltb (label .0) (c .label .0)) (λ l. refused Late (is-late (below (ltb-true _ _ l))))
       (λ ge. on-pick (To _) (eqb (label .0) (c .label .0))
-      (λ e. subst (λ (k : RoundLabel). To (Reading k run raw) (sameRound (briefOf c) here run raw (c .phase))) (sym (same-round label (c .label) (eqb-true _ _ e)))
-      (same-way here run raw (c .phase) refl))
+      (λ e. let k = same-round label (c .label) (eqb-true _ _ e) in
+      subst (λ (x : RoundLabel). To (Reading x run raw) (sameRound (briefOf c) (getD (c .readings) run 0) run raw (c .phase))) (sym k)
+      (same-way run raw (c .phase) refl (subst (λ (x : RoundLabel). c .state .0 < x .0) k (ltb-true _ _ (not-false _ above)))))
       (λ ne. begins (ltb-true _ _ (not-false _ above)) (let n = eqb-false (label .0) (c .label .0) ne in omega (arith, ltb-false (label .0) (c .label .0) ge)))))
 
-  answered-way : (sender mask : ℕ) → Busy (c .phase) → To (Query sender (c .label) mask) (answered (briefOf c) mask)
-  unfolding answered
-  answered-way sender mask b = on-pick (To _) (eqb (bitAnd mask (c .held)) 0) (λ _. unchanged) (λ n. replies b (eqb-false _ _ n))
+  module _ (sender mask : ℕ) (ne : sender ≡ c .own → ⊥) where
+    answered-way : Busy (c .phase) → To (Query sender (c .label) mask) (answered (briefOf c) mask)
+    unfolding answered
+    answered-way b = on-pick (To _) (eqb (bitAnd mask (c .held)) 0) (λ k. unchanged (none-held ne b (eqb-true _ _ k))) (λ n. replies ne b (eqb-false _ _ n))
 
-  query-way : (sender mask : ℕ) (phase : Phase) → c .phase ≡ phase → To (Query sender (c .label) mask) (inQuery (briefOf c) mask phase)
-  unfolding inQuery
-  query-way sender mask Idle e = refused Closed refl
-  query-way sender mask Collecting e = answered-way sender mask (rw e tt)
-  query-way sender mask Pending e = answered-way sender mask (rw e tt)
-  query-way sender mask Voting e = answered-way sender mask (rw e tt)
+    query-way : (phase : Phase) → c .phase ≡ phase → To (Query sender (c .label) mask) (inQuery (briefOf c) mask phase)
+    unfolding inQuery
+    query-way Idle e = refused Closed (is-closed (shut-query ne e))
+    query-way Collecting e = answered-way (rw e tt)
+    query-way Pending e = answered-way (rw e tt)
+    query-way Voting e = answered-way (rw e tt)
 
-  reply-way : (sender mask : ℕ) (phase : Phase) → c .phase ≡ phase → To (Reply sender (c .label) mask) (inReply mask (clashing c mask (a .readings)) phase)
-  unfolding inReply
-  reply-way sender mask Idle e = refused Closed refl
-  reply-way sender mask Collecting e = on-pick (To _) (clashing c mask (a .readings)) (λ _. refused Clash refl) (λ n. merges e n)
-  reply-way sender mask Pending e = refused Closed refl
-  reply-way sender mask Voting e = refused Closed refl
+    reply-way : (phase : Phase) → c .phase ≡ phase → To (Reply sender (c .label) mask) (inReply mask (clashing c mask (a .readings)) phase)
+    unfolding inReply
+    reply-way Idle e = refused Closed (is-closed (shut-reply ne (not-in Idle Collecting e refl)))
+    reply-way Collecting e = on-pick (To _) (clashing c mask (a .readings)) (λ k. refused Clash (is-clash (by-reply ne e k))) (λ n. merges ne e n)
+    reply-way Pending e = refused Closed (is-closed (shut-reply ne (not-in Pending Collecting e refl)))
+    reply-way Voting e = refused Closed (is-closed (shut-reply ne (not-in Voting Collecting e refl)))
 
   -- ---- A, U
-  advert-way : (sender : ℕ) (other : StateLabel) → To (Advert sender other) (planAdvert (briefOf c) sender other)
-  unfolding planAdvert
-  advert-way sender other =
-      theirs (Advert sender other) sender (λ _. on-pick (To _) (ltb (other .0) (c .state .0)) (λ e. updates (ltb-true _ _ e)) (λ _. unchanged))
+  module _ (sender : ℕ) (other : StateLabel) (ne : sender ≡ c .own → ⊥) where
+    advert-way : To (Advert sender other) (pick (ltb (other .0) (c .state .0)) (sends Keep (Update (c .own) (c .state))) (does Keep))
+    advert-way = on-pick (To _) (ltb (other .0) (c .state .0)) (λ e. updates ne (ltb-true _ _ e)) (λ e. unchanged (not-below ne (ltb-false _ _ e)))
 
-  older : (h : Head) (other : StateLabel) (same : Bool) → To h (pick (ltb (other .0) (c .state .0)) (does Keep) (pick same (does Keep) (refuse Clash)))
-  older h other same = on-pick (To h) (ltb (other .0) (c .state .0)) (λ _. unchanged) (λ _. on-pick (To h) same (λ _. unchanged) (λ _. refused Clash refl))
+    -- where the state is not replaced
+    older : Open (c .phase) → ltb (c .state .0) (other .0) ≡ false
+        → To (Update sender other) (pick (ltb (other .0) (c .state .0)) (does Keep) (pick (sameState (a .estimates) (c .estimates)) (does Keep) (refuse Clash)))
+    older o n =
+        on-pick (To _) (ltb (other .0) (c .state .0)) (λ l. unchanged (lower ne o (ltb-true _ _ l)))
+        (λ l. let k = same-state (c .state) other (omega (arith, ltb-false (c .state .0) (other .0) n, ltb-false (other .0) (c .state .0) l)) in
+        subst (λ (x : StateLabel). To (Update sender x) (pick (sameState (a .estimates) (c .estimates)) (does Keep) (refuse Clash))) k
+        (on-pick (To _) (sameState (a .estimates) (c .estimates)) (λ t. unchanged (equal ne o t)) (λ t. refused Clash (is-clash (by-update ne o t)))))
 
-  overtaken-way : (sender : ℕ) (other : StateLabel) → c .phase ≡ Collecting → c .state .0 < other .0
-      → To (Update sender other) (does (Adopt other (overtaken (briefOf c) other)))
-  unfolding overtaken
-  overtaken-way sender other e l =
-      on-pick (λ (phase : Phase). To (Update sender other) (does (Adopt other phase))) (before other (c .label)) (λ b. adopts-before e l (ltb-true _ _ b)) (λ b. adopts-past e l b)
+    overtaken-way : c .phase ≡ Collecting → c .state .0 < other .0 → To (Update sender other) (does (Adopt other (overtaken (briefOf c) other)))
+    unfolding overtaken
+    overtaken-way e l =
+        on-pick (λ (phase : Phase). To (Update sender other) (does (Adopt other phase))) (before other (c .label)) (λ b. adopts-before ne e l (ltb-true _ _ b)) (λ b. adopts-past ne e l b)
 
-  update-way : (sender : ℕ) (other : StateLabel) (same : Bool) (phase : Phase) → c .phase ≡ phase → To (Update sender other) (inUpdate (briefOf c) other same phase)
-  unfolding inUpdate adopted
-  update-way sender other same Idle e = on-pick (To _) (ltb (c .state .0) (other .0)) (λ l. adopts-idle e (ltb-true _ _ l)) (λ _. older _ other same)
-  update-way sender other same Collecting e = on-pick (To _) (ltb (c .state .0) (other .0)) (λ l. overtaken-way sender other e (ltb-true _ _ l)) (λ _. older _ other same)
-  update-way sender other same Pending e = refused Closed refl
-  update-way sender other same Voting e = refused Closed refl
+    update-way : (phase : Phase) → c .phase ≡ phase → To (Update sender other) (inUpdate (briefOf c) other (sameState (a .estimates) (c .estimates)) phase)
+    unfolding inUpdate adopted
+    update-way Idle e = on-pick (To _) (ltb (c .state .0) (other .0)) (λ l. adopts-idle ne e (ltb-true _ _ l)) (λ n. older (rw e tt) n)
+    update-way Collecting e = on-pick (To _) (ltb (c .state .0) (other .0)) (λ l. overtaken-way e (ltb-true _ _ l)) (λ n. older (rw e tt) n)
+    update-way Pending e = refused Closed (is-closed (shut-update ne (rw e tt)))
+    update-way Voting e = refused Closed (is-closed (shut-update ne (rw e tt)))
 
   -- ---- C, E, V
   asking-way : c .phase ≡ Collecting → To (Due (c .label)) (asking (briefOf c) (s .group .m))
   unfolding asking
   asking-way e =
       on-pick (To _) (ltb (c .state .0) (justBefore (c .label) .0))
-      (λ l. on-pick (To _) (eqb (missingRuns (briefOf c) (s .group .m)) 0) (λ _. adverts e (ltb-true _ _ l)) (λ n. asks-and-adverts e (eqb-false _ _ n) (ltb-true _ _ l)))
-      (λ _. on-pick (To _) (eqb (missingRuns (briefOf c) (s .group .m)) 0) (λ _. unchanged) (λ n. asks e (eqb-false _ _ n)))
+      (λ l. on-pick (To _) (eqb (missingRuns (briefOf c) (s .group .m)) 0) (λ k. adverts e (eqb-true _ _ k) (ltb-true _ _ l)) (λ n. asks-and-adverts e (eqb-false _ _ n) (ltb-true _ _ l)))
+      (λ l. on-pick (To _) (eqb (missingRuns (briefOf c) (s .group .m)) 0) (λ k. unchanged (none-due e (eqb-true _ _ k) (ltb-false _ _ l))) (λ n. asks e (eqb-false _ _ n) (ltb-false _ _ l)))
 
   due-way : (phase : Phase) → c .phase ≡ phase → To (Due (c .label)) (inDue (briefOf c) (s .group .m) phase)
   unfolding inDue
-  due-way Idle e = refused Closed refl
+  due-way Idle e = refused Closed (is-closed (shut-due (not-in Idle Collecting e refl)))
   due-way Collecting e = asking-way e
-  due-way Pending e = refused Closed refl
-  due-way Voting e = refused Closed refl
+  due-way Pending e = refused Closed (is-closed (shut-due (not-in Pending Collecting e refl)))
+  due-way Voting e = refused Closed (is-closed (shut-due (not-in Voting Collecting e refl)))
 
   ends-way : (phase : Phase) → c .phase ≡ phase → To (CollectingEnds (c .label)) (inEnds (briefOf c) phase)
   unfolding inEnds
-  ends-way Idle e = refused Closed refl
+  ends-way Idle e = refused Closed (is-closed (shut-collecting-ends (not-in Idle Collecting e refl)))
   ends-way Collecting e = collected e
-  ends-way Pending e = refused Closed refl
-  ends-way Voting e = refused Closed refl
+  ends-way Pending e = refused Closed (is-closed (shut-collecting-ends (not-in Pending Collecting e refl)))
+  ends-way Voting e = refused Closed (is-closed (shut-collecting-ends (not-in Voting Collecting e refl)))
 
   voting-ends-way : (phase : Phase) → c .phase ≡ phase → To (VotingEnds (c .label)) (inVotingEnds phase)
   unfolding inVotingEnds
-  voting-ends-way Idle e = refused Closed refl
-  voting-ends-way Collecting e = refused Closed refl
-  voting-ends-way Pending e = refused Closed refl
+  voting-ends-way Idle e = refused Closed (is-closed (shut-voting-ends (not-in Idle Voting e refl)))
+  voting-ends-way Collecting e = refused Closed (is-closed (shut-voting-ends (not-in Collecting Voting e refl)))
+  voting-ends-way Pending e = refused Closed (is-closed (shut-voting-ends (not-in Pending Voting e refl)))
   voting-ends-way Voting e = lapses e
 
   -- ---- D, F
@@ -178,10 +223,10 @@ module _ (s : Numbers) (c : Controller) (a : Message) where
 
   floor-way : (phase : Phase) → c .phase ≡ phase → To (Floor (c .label)) (votePlan s c (inFloor (briefOf c) phase))
   unfolding inFloor judgedPlan judgedIn
-  floor-way Idle e = refused Closed refl
-  floor-way Collecting e = refused Closed refl
+  floor-way Idle e = refused Closed (is-closed (shut-floor (not-in Idle Pending e refl)))
+  floor-way Collecting e = refused Closed (is-closed (shut-floor (not-in Collecting Pending e refl)))
   floor-way Pending e = judged-way (ours e) _ refl
-  floor-way Voting e = refused Closed refl
+  floor-way Voting e = refused Closed (is-closed (shut-floor (not-in Voting Pending e refl)))
 
   module _ (sender : ℕ) (digest : Digest) (other : sender ≡ c .own → ⊥) (free : Free (ballotAt c sender) digest) where
     taken-way : (phase : Phase) → c .phase ≡ phase → Busy phase → To (Vote sender (c .label) digest) (votePlan s c (does (Count sender digest phase)))
@@ -191,20 +236,20 @@ module _ (s : Numbers) (c : Controller) (a : Message) where
     taken-way Pending e b = subst (λ (p : Phase). To (Vote sender (c .label) digest) (does (Count sender digest p))) e (counts other (rw e tt) free)
     taken-way Voting e b = judged-way (another's other e free) _ refl
 
-  seat-way : (sender : ℕ) (digest : Digest) → (sender ≡ c .own → ⊥) → (phase : Phase) → c .phase ≡ phase → Busy phase → (b : Ballot) → ballotAt c sender ≡ b
-      → To (Vote sender (c .label) digest) (votePlan s c (inSeat sender digest phase b))
-  unfolding inSeat judgedPlan
-  seat-way sender digest other phase e q Missing k = taken-way sender digest other (rw k tt) phase e q
-  seat-way sender digest other phase e q (Cast d) k =
-      on-pick (λ (p : Plan). To (Vote sender (c .label) digest) (votePlan s c p)) (same d digest) (λ t. taken-way sender digest other (rw k (same-true d digest t)) phase e q) (λ _. refused Clash refl)
+  module _ (sender : ℕ) (digest : Digest) (ne : sender ≡ c .own → ⊥) where
+    seat-way : (phase : Phase) → c .phase ≡ phase → Busy phase → (b : Ballot) → ballotAt c sender ≡ b → To (Vote sender (c .label) digest) (votePlan s c (inSeat sender digest phase b))
+    unfolding inSeat judgedPlan
+    seat-way phase e q Missing k = taken-way sender digest ne (rw k tt) phase e q
+    seat-way phase e q (Cast d) k =
+        on-pick (λ (p : Plan). To (Vote sender (c .label) digest) (votePlan s c p)) (same d digest) (λ t. taken-way sender digest ne (rw k (same-true d digest t)) phase e q)
+        (λ n. refused Clash (is-clash (by-digest ne (subst Busy (sym e) q) k (λ z. true≢false (sym (ap (λ (x : Digest). same x digest) z ∙ same-refl digest) ∙ n)))))
 
-  digest-way : (sender : ℕ) (digest : Digest) → (sender ≡ c .own → ⊥) → (phase : Phase) → c .phase ≡ phase
-      → To (Vote sender (c .label) digest) (votePlan s c (inDigest (briefOf c) (ballotAt c sender) sender digest phase))
-  unfolding inDigest judgedPlan
-  digest-way sender digest other Idle e = refused Closed refl
-  digest-way sender digest other Collecting e = seat-way sender digest other (c .phase) refl (rw e tt) _ refl
-  digest-way sender digest other Pending e = seat-way sender digest other (c .phase) refl (rw e tt) _ refl
-  digest-way sender digest other Voting e = seat-way sender digest other (c .phase) refl (rw e tt) _ refl
+    digest-way : (phase : Phase) → c .phase ≡ phase → To (Vote sender (c .label) digest) (votePlan s c (inDigest (briefOf c) (ballotAt c sender) sender digest phase))
+    unfolding inDigest judgedPlan
+    digest-way Idle e = refused Closed (is-closed (shut-vote ne e))
+    digest-way Collecting e = seat-way (c .phase) refl (rw e tt) _ refl
+    digest-way Pending e = seat-way (c .phase) refl (rw e tt) _ refl
+    digest-way Voting e = seat-way (c .phase) refl (rw e tt) _ refl
 
   -- what a choice between plans leads to, once judged
   judged-pick : (h : Head) (t : Bool) (p q : Plan) → (t ≡ true → To h (votePlan s c p)) → (t ≡ false → To h (votePlan s c q)) → To h (votePlan s c (pick t p q))
@@ -212,27 +257,30 @@ module _ (s : Numbers) (c : Controller) (a : Message) where
 
   -- ---- every message
   leads : (h : Head) → To h (planned s c a h)
-  unfolding planned planQuery planReply planUpdate planSetpoints planDue planEnds planVotingEnds planFloor planDigest judgedPlan
-  leads (Reading label run raw) = reading-way (getD (c .readings) run 0) label run raw
-  leads (Query sender label mask) = theirs _ sender (λ _. current (λ k. Query sender k mask) label (query-way sender mask (c .phase) refl))
-  leads (Reply sender label mask) = theirs _ sender (λ _. current (λ k. Reply sender k mask) label (reply-way sender mask (c .phase) refl))
-  leads (Advert sender state) = advert-way sender state
-  leads (Update sender state) = theirs _ sender (λ _. update-way sender state (sameState (a .estimates) (c .estimates)) (c .phase) refl)
+  unfolding planned planQuery planReply planAdvert planUpdate planSetpoints planDue planEnds planVotingEnds planFloor planDigest judgedPlan
+  leads (Reading label run raw) = reading-way label run raw
+  leads (Query sender label mask) =
+      theirs (λ j. Query j label mask) my-query sender (λ ne. current (λ k. Query sender k mask) label (other-query ne) (query-way sender mask ne (c .phase) refl))
+  leads (Reply sender label mask) =
+      theirs (λ j. Reply j label mask) my-reply sender (λ ne. current (λ k. Reply sender k mask) label (other-reply ne) (reply-way sender mask ne (c .phase) refl))
+  leads (Advert sender state) = theirs (λ j. Advert j state) my-advert sender (λ ne. advert-way sender state ne)
+  leads (Update sender state) = theirs (λ j. Update j state) my-update sender (λ ne. update-way sender state ne (c .phase) refl)
   leads (Vote sender label digest) =
-      judged-pick _ (eqb sender (c .own)) _ _ (λ _. refused Own refl)
-      (λ o. judged-pick _ (not (eqb (label .0) (c .label .0))) _ _ (λ _. refused Other refl)
+      judged-pick _ (eqb sender (c .own)) _ _ (λ e. subst (λ (j : ℕ). To (Vote j label digest) (refuse Own)) (sym (eqb-true _ _ e)) (refused Own (is-own my-vote)))
+      (λ o. let ne = eqb-false sender (c .own) o in
+      judged-pick _ (not (eqb (label .0) (c .label .0))) _ _ (λ e. refused Other (is-other (other-vote ne (another label (c .label) e))))
       (λ e. subst (λ (k : RoundLabel). To (Vote sender k digest) (votePlan s c (inDigest (briefOf c) (ballotAt c sender) sender digest (c .phase))))
-      (sym (same-round label (c .label) (eqb-true _ _ (not-false _ e)))) (digest-way sender digest (eqb-false _ _ o) (c .phase) refl)))
-  leads (Setpoints sender label digest) = theirs _ sender (λ _. refused Closed refl)
-  leads (Due label) = current Due label (due-way (c .phase) refl)
-  leads (CollectingEnds label) = current CollectingEnds label (ends-way (c .phase) refl)
-  leads (VotingEnds label) = current VotingEnds label (voting-ends-way (c .phase) refl)
+      (sym (same-round label (c .label) (eqb-true _ _ (not-false _ e)))) (digest-way sender digest ne (c .phase) refl)))
+  leads (Setpoints sender label digest) = theirs (λ j. Setpoints j label digest) my-setpoints sender (λ ne. refused Closed (is-closed (shut-setpoints ne)))
+  leads (Due label) = current Due label other-due (due-way (c .phase) refl)
+  leads (CollectingEnds label) = current CollectingEnds label other-collecting-ends (ends-way (c .phase) refl)
+  leads (VotingEnds label) = current VotingEnds label other-voting-ends (voting-ends-way (c .phase) refl)
   leads (Floor label) =
-      judged-pick _ (not (eqb (label .0) (c .label .0))) _ _ (λ _. refused Other refl)
+      judged-pick _ (not (eqb (label .0) (c .label .0))) _ _ (λ e. refused Other (is-other (other-floor (another label (c .label) e))))
       (λ e. subst (λ (k : RoundLabel). To (Floor k) (votePlan s c (inFloor (briefOf c) (c .phase))))
       (sym (same-round label (c .label) (eqb-true _ _ (not-false _ e)))) (floor-way (c .phase) refl))
   leads (Start own floor) = restarts
-  leads (Refused number) = refused Kind refl
+  leads (Refused number) = refused Kind is-unknown
 
   pub goes : Goes s c a (stepped s c a)
   unfolding stepped

@@ -41,12 +41,3 @@ pub data VoteFrom (c : Controller) (a : Message) (r : Answer) (seat : ℕ) (d : 
   by-digest : a .head ≡ Vote seat (r .next .label) d → VoteFrom c a r seat d
   by-floor : a .head ≡ Floor (r .next .label) → c .phase ≡ Pending → seat ≡ c .own → d ≡ ownDigest (briefOf c)
       → r .first ≡ One (Vote (c .own) (r .next .label) (ownDigest (briefOf c))) → VoteFrom c a r seat d
-
--- the state after a step: as it was, or that of the message, or the one that the decided round leaves, or that of a start
-pub data StateFrom (s : Numbers) (c : Controller) (a : Message) (n : Controller) : Type 0 where
-  was-state : n .state ≡ c .state → n .estimates ≡ c .estimates → StateFrom s c a n
-  by-update : (sender : ℕ) → a .head ≡ Update sender (n .state) → n .estimates ≡ a .estimates → c .state .0 < n .state .0 → StateFrom s c a n
-  by-issue : (seat : ℕ) (digest chosen : Digest) (first : Sent) → Votes c (a .head) seat digest first → decided s c seat digest ≡ Decided chosen → before (chosen .state) (c .label) ≡ true
-      → possessed (briefOf c) chosen ≡ true → n .label ≡ c .label → n .state ≡ issuedState (c .label)
-      → n .estimates ≡ newState (c .label) (c .state) (c .estimates) s (chosen .mask) (c .readings) → StateFrom s c a n
-  by-start : (own : ℕ) (floor : RoundLabel) → a .head ≡ Start own floor → n .state ≡ record { 0 = 0 } → n .estimates ≡ startEstimates (s .group .m) (s .p) → StateFrom s c a n

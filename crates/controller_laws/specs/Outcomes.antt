@@ -1,4 +1,4 @@
--- What is known of a step by what came of it: a message that it sent, the state that it left, the refusal 11. For laws about many controllers together.
+-- What is known of a step by what came of it: a message that it sent, the state that it left. For laws about many controllers together.
 use Prim.Native.Nat.{ℕ}
 use mathlib.Core.Path.{_≡_}
 use mathlib.Core.Bool.{true, false}
@@ -48,16 +48,9 @@ pub data SentBy (s : Numbers) (c : Controller) (h : Head) (n : Controller) : Hea
   vote : h ≡ Floor (c .label) → c .phase ≡ Pending → SentBy s c h n (Vote (c .own) (c .label) (ownDigest (briefOf c)))
   setpoints : {chosen : Digest} → Settled s c h chosen n → SentBy s c h n (Setpoints (c .own) (c .label) chosen)
 
--- the state after a step, as in `StateFrom`; where it is the issued one, S goes out
+-- the state after a step: as it was, or that of the message, or the one that the decided round leaves, with which S goes out, or that of a start
 pub data StateBy (s : Numbers) (c : Controller) (a : Message) (r : Answer) : Type 0 where
   kept : r .next .state ≡ c .state → r .next .estimates ≡ c .estimates → StateBy s c a r
   adopted : (sender : ℕ) → a .head ≡ Update sender (r .next .state) → r .next .estimates ≡ a .estimates → StateBy s c a r
   issued : (chosen : Digest) → Settled s c (a .head) chosen (r .next) → IsSent r (Setpoints (c .own) (c .label) chosen) → StateBy s c a r
   started : r .next .state ≡ record { 0 = 0 } → r .next .estimates ≡ startEstimates (s .group .m) (s .p) → StateBy s c a r
-
--- "11 Clash: differs from what is held for the same thing": a reading, the readings of R, the state of U, a vote
-pub data Clashed (c : Controller) (a : Message) : Head → Type 0 where
-  by-reading : {run raw : ℕ} → inMask (c .held) run ≡ true → (getD (c .readings) run 0 ≡ raw → ⊥) → Clashed c a (Reading (c .label) run raw)
-  by-reply : {sender mask : ℕ} → clashing c mask (a .readings) ≡ true → Clashed c a (Reply sender (c .label) mask)
-  by-update : {sender : ℕ} → sameState (a .estimates) (c .estimates) ≡ false → Clashed c a (Update sender (c .state))
-  by-digest : {sender : ℕ} {digest e : Digest} → ballotAt c sender ≡ Cast e → (e ≡ digest → ⊥) → Clashed c a (Vote sender (c .label) digest)

@@ -1,5 +1,5 @@
 -- What a step may send: "at most what document 01 names", by the kind of message that it took.
-use Prim.Native.Nat.{ℕ, _<_}
+use Prim.Native.Nat.{ℕ, _≤_, _<_}
 use mathlib.Core.Path.{_≡_}
 use mathlib.Core.Logic.{_⊎_}
 use lib.Bits.{bitAnd}
@@ -9,6 +9,7 @@ use Rattle.vote.specs.declared.digest.Digest.{Digest}
 use Rattle.vote.specs.declared.judge.Decision.the-variants.{Decided}
 use Rattle.message.specs.declared.head.Head.{Head}
 use Rattle.message.specs.declared.head.Head.the-variants.{Reading, Query, Reply, Advert, Update, Vote, Setpoints, Due, CollectingEnds, VotingEnds, Floor, Start, Refused}
+use Rattle.message.specs.declared.value.Message.{Message}
 use Rattle.plan.specs.declared.brief.Phase.the-variants.{Collecting, Pending}
 use Rattle.plan.specs.declared.planned.Sent.{Sent}
 use Rattle.plan.specs.declared.planned.Sent.the-variants.{Nothing, One}
@@ -16,13 +17,19 @@ use Rattle.plan.specs.Timers.{missingRuns}
 use Rattle.plan.specs.Votes.{ownDigest}
 use Rattle.controller.specs.declared.state.Controller.{Controller}
 use Rattle.controller.specs.declared.step.Answer.{Answer}
+use Rattle.controller.specs.declared.told.Told.{Told}
 use Rattle.controller.specs.State.{briefOf}
 use Rattle.controller.specs.Step.{decided}
-use Rattle.controller_laws.specs.Ways.{Busy, Early, Votes}
+use Rattle.controller_laws.specs.Phases.{Busy, Early}
+use Rattle.controller_laws.specs.Ways.{Votes}
 
 -- one of an answer's up to two messages
 abbrev pub IsSent : Answer → Head → Type 0
 IsSent r head = (r .first ≡ One head) ⊎ (r .second ≡ One head)
+
+-- one of the whole messages that a step tells of, by their number
+abbrev pub Tells : Told → Message → Type 0
+Tells t x = ((1 ≤ t .sent) × (t .first ≡ x)) ⊎ ((2 ≤ t .sent) × (t .second ≡ x))
 
 -- what the message on the left may lead to being sent
 pub data MaySend (s : Numbers) (c : Controller) : Head → Head → Type 0 where

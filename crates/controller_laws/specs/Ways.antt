@@ -1,5 +1,5 @@
 -- THE WAYS THAT A STEP CAN GO: each plan that a message can lead to, with what is known there. Every law of the step goes by these.
-use Prim.Native.Nat.{ℕ, _<_}
+use Prim.Native.Nat.{ℕ, _≤_, _<_}
 use mathlib.Core.Path.{_≡_}
 use mathlib.Core.Bool.{Bool, true, false}
 use lib.Bits.{bitAnd}
@@ -15,12 +15,9 @@ use Rattle.units.specs.Refusal.{numberOf}
 use Rattle.units.specs.Within.{within}
 use Rattle.vote.specs.declared.digest.Digest.{Digest}
 use Rattle.vote.specs.declared.judge.Decision.the-variants.{Decided}
-use Rattle.vote.specs.declared.votes.Ballot.{Ballot}
-use Rattle.vote.specs.declared.votes.Ballot.the-variants.{Missing, Cast}
 use Rattle.message.specs.declared.head.Head.{Head}
 use Rattle.message.specs.declared.head.Head.the-variants.{Reading, Query, Reply, Advert, Update, Vote, Setpoints, Due, CollectingEnds, VotingEnds, Floor, Start}
 use Rattle.message.specs.declared.value.Message.{Message}
-use Rattle.plan.specs.declared.brief.Phase.{Phase}
 use Rattle.plan.specs.declared.brief.Phase.the-variants.{Idle, Collecting, Pending, Voting}
 use Rattle.plan.specs.declared.planned.Effect.the-variants.{Keep, Go, Begin, Add, Merge, Adopt, Count, Issue, Restart}
 use Rattle.plan.specs.declared.planned.Plan.{Plan}
@@ -33,28 +30,12 @@ use Rattle.controller.specs.declared.state.Controller.{Controller}
 use Rattle.controller.specs.declared.step.Answer.{Answer}
 use Rattle.controller.specs.State.{briefOf, ballotAt}
 use Rattle.controller.specs.Step.{clashing, decided, inputsFit, carriedOut}
+use Rattle.controller_laws.specs.Phases.{Busy, Early, Free}
+use Rattle.controller_laws.specs.Reasons.{Refuses, Rests}
 
 -- 12, 13 and 14, which end the round
 abbrev pub ends : Refusal → Bool
 ends why = within 12 14 (numberOf why)
-
-abbrev pub Busy : Phase → Type 0
-Busy Idle = ⊥
-Busy Collecting = Unit {0}
-Busy Pending = Unit {0}
-Busy Voting = Unit {0}
-
--- before our vote: collecting or pending
-abbrev pub Early : Phase → Type 0
-Early Idle = ⊥
-Early Collecting = Unit {0}
-Early Pending = Unit {0}
-Early Voting = ⊥
-
--- a seat takes a digest: it is empty, or holds that digest already
-abbrev pub Free : Ballot → Digest → Type 0
-Free Missing d = Unit {0}
-Free (Cast e) d = e ≡ d
 
 -- "the vote is judged after F and after each D": the vote that is taken in while voting, and what goes out with it
 pub data Votes (c : Controller) : Head → ℕ → Digest → Sent → Type 0 where
@@ -65,31 +46,31 @@ pub data Votes (c : Controller) : Head → ℕ → Digest → Sent → Type 0 wh
 
 -- what the message h leads to
 pub data Leads (s : Numbers) (c : Controller) (a : Message) : Head → Plan → Type 0 where
-  refused : {h : Head} (why : Refusal) → ends why ≡ false → Leads s c a h (refuse why)
-  unchanged : {h : Head} → Leads s c a h (does Keep)
+  refused : {h : Head} (why : Refusal) → Refuses c a h why → Leads s c a h (refuse why)
+  unchanged : {h : Head} → Rests s c a h → Leads s c a h (does Keep)
   -- M
   begins : {label : RoundLabel} {run raw : ℕ} → c .state .0 < label .0 → c .label .0 < label .0
       → Leads s c a (Reading label run raw) (does (Begin label run raw))
-  adds : {run raw : ℕ} → c .phase ≡ Collecting → inMask (c .held) run ≡ false
+  adds : {run raw : ℕ} → c .phase ≡ Collecting → c .state .0 < c .label .0 → inMask (c .held) run ≡ false
       → Leads s c a (Reading (c .label) run raw) (does (Add run raw))
   -- Q, R
-  replies : {sender mask : ℕ} → Busy (c .phase) → (bitAnd mask (c .held) ≡ 0 → ⊥)
+  replies : {sender mask : ℕ} → (sender ≡ c .own → ⊥) → Busy (c .phase) → (bitAnd mask (c .held) ≡ 0 → ⊥)
       → Leads s c a (Query sender (c .label) mask) (sends Keep (Reply (c .own) (c .label) (bitAnd mask (c .held))))
-  merges : {sender mask : ℕ} → c .phase ≡ Collecting → clashing c mask (a .readings) ≡ false
+  merges : {sender mask : ℕ} → (sender ≡ c .own → ⊥) → c .phase ≡ Collecting → clashing c mask (a .readings) ≡ false
       → Leads s c a (Reply sender (c .label) mask) (does (Merge mask))
   -- A, U
-  updates : {sender : ℕ} {theirs : StateLabel} → theirs .0 < c .state .0
+  updates : {sender : ℕ} {theirs : StateLabel} → (sender ≡ c .own → ⊥) → theirs .0 < c .state .0
       → Leads s c a (Advert sender theirs) (sends Keep (Update (c .own) (c .state)))
-  adopts-idle : {sender : ℕ} {theirs : StateLabel} → c .phase ≡ Idle → c .state .0 < theirs .0
+  adopts-idle : {sender : ℕ} {theirs : StateLabel} → (sender ≡ c .own → ⊥) → c .phase ≡ Idle → c .state .0 < theirs .0
       → Leads s c a (Update sender theirs) (does (Adopt theirs Idle))
-  adopts-before : {sender : ℕ} {theirs : StateLabel} → c .phase ≡ Collecting → c .state .0 < theirs .0 → theirs .0 < c .label .0
+  adopts-before : {sender : ℕ} {theirs : StateLabel} → (sender ≡ c .own → ⊥) → c .phase ≡ Collecting → c .state .0 < theirs .0 → theirs .0 < c .label .0
       → Leads s c a (Update sender theirs) (does (Adopt theirs Collecting))
-  adopts-past : {sender : ℕ} {theirs : StateLabel} → c .phase ≡ Collecting → c .state .0 < theirs .0 → before theirs (c .label) ≡ false
+  adopts-past : {sender : ℕ} {theirs : StateLabel} → (sender ≡ c .own → ⊥) → c .phase ≡ Collecting → c .state .0 < theirs .0 → before theirs (c .label) ≡ false
       → Leads s c a (Update sender theirs) (does (Adopt theirs Idle))
   -- C
-  asks : c .phase ≡ Collecting → (missingRuns (briefOf c) (s .group .m) ≡ 0 → ⊥)
+  asks : c .phase ≡ Collecting → (missingRuns (briefOf c) (s .group .m) ≡ 0 → ⊥) → justBefore (c .label) .0 ≤ c .state .0
       → Leads s c a (Due (c .label)) (sends Keep (Query (c .own) (c .label) (missingRuns (briefOf c) (s .group .m))))
-  adverts : c .phase ≡ Collecting → c .state .0 < justBefore (c .label) .0
+  adverts : c .phase ≡ Collecting → missingRuns (briefOf c) (s .group .m) ≡ 0 → c .state .0 < justBefore (c .label) .0
       → Leads s c a (Due (c .label)) (sends Keep (Advert (c .own) (c .state)))
   asks-and-adverts : c .phase ≡ Collecting → (missingRuns (briefOf c) (s .group .m) ≡ 0 → ⊥) → c .state .0 < justBefore (c .label) .0
       → Leads s c a (Due (c .label)) (both Keep (Query (c .own) (c .label) (missingRuns (briefOf c) (s .group .m))) (Advert (c .own) (c .state)))

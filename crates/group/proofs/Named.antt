@@ -34,8 +34,8 @@ use Rattle.controller.specs.declared.state.Controller.{Controller}
 use Rattle.controller.specs.State.{ballotAt}
 use Rattle.controller.specs.Merge.{agreePlace, agreeAt, agrees}
 use Rattle.controller.specs.Step.{stepped}
-use Rattle.controller_laws.specs.Outcomes.{Clashed}
-use Rattle.controller_laws.specs.Outcomes.Clashed.{by-reading, by-reply, by-update, by-digest}
+use Rattle.controller_laws.specs.Reasons.{Clashed}
+use Rattle.controller_laws.specs.Reasons.Clashed.{by-reading, by-reply, by-update, by-digest}
 use Rattle.controller_laws.proofs.Clashes.{clash-only}
 use Rattle.controller_laws.proofs.Fits.{inputs}
 use Rattle.controller_laws.proofs.Masks.{in-and}
@@ -127,15 +127,15 @@ module _ (s : Numbers) (meters : Meters) {w : World} (run : Run s (Enough meters
           (λ t. let u = sym (in-and mask (c .held) i) ∙ t in g i k (and-left (inMask mask i) _ u) ∙ sym (f .reads i k (and-right (inMask mask i) _ u))))
 
       clash : (h : Head) → a .head ≡ h → Clashed c a h → ⊥
-      clash h e (by-reading {run = r} {raw = raw} b n) =
+      clash h e (by-reading {run = r} {raw = raw} open old b n) =
           let k : r < 16 = omega (arith, reading-run (s .group) (c .label) r raw (fits (Reading (c .label) r raw) e), small) in
           n (f .reads r k b ∙ sym (p .one-reading (c .label) r raw e))
-      clash h e (by-reply {sender} {mask} b) = true≢false (sym b ∙ ap not (agreed mask (λ i k q. x .readings sender (c .label) mask e i k q)))
+      clash h e (by-reply {sender} {mask} ne open b) = true≢false (sym b ∙ ap not (agreed mask (λ i k q. x .readings sender (c .label) mask e i k q)))
         where
           x : Says s meters (w .sent) (once s meters run .lines) (once s meters run .unique) a
           x = sound-run s meters run .said a (sent-one (Reply sender (c .label) mask) e tt)
-      clash h e (by-update {sender} b) =
+      clash h e (by-update {sender} ne open b) =
           let z : a .estimates ≡ c .estimates = one-state (in-message {x = a} {sender = sender} {label = c .state} (sent-one (Update sender (c .state)) e tt) e) (in-controller {i = i} {c = c} at) in
           true≢false (sym (ap (λ (x : List Estimate). sameState x (c .estimates)) z ∙ same-state-self (s .group .m) (c .estimates) (valid .estimates)) ∙ b)
-      clash h e (by-digest {sender} {digest} {e = d} b n) =
+      clash h e (by-digest {sender} {digest} {e = d} ne busy b n) =
           n (one-digest sender (c .label) d digest (f .votes sender d b) (record { line = a; among = sent-one (Vote sender (c .label) digest) e tt; said = e }))

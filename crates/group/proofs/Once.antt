@@ -24,7 +24,7 @@ use Rattle.controller_laws.specs.Changes.{NoStart}
 use Rattle.controller_laws.specs.Outcomes.{SentBy}
 use Rattle.controller_laws.specs.Outcomes.SentBy.{query, reply, advert, update, floor, vote, setpoints}
 use Rattle.controller_laws.specs.Sendings.{IsSent, Voted}
-use Rattle.controller_laws.specs.Ways.{Early}
+use Rattle.controller_laws.specs.Phases.{Early}
 use Rattle.controller_laws.proofs.Fits.{step-fits, started-fits}
 use Rattle.controller_laws.proofs.Outcomes.{sent-by, start-step}
 use Rattle.controller_laws.proofs.Rises.{step-rises}

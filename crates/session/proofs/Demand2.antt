@@ -10,12 +10,12 @@ use Rattle.units.specs.declared.labels.RoundLabel.{RoundLabel}
 use Rattle.units.specs.declared.refusal.Verdict.the-variants.{Taken}
 use Rattle.units.specs.declared.settings.Group.{Group}
 use Rattle.units.specs.declared.settings.Numbers.{Numbers}
-use Rattle.units.specs.Labels.{issuedState}
+use Rattle.units.specs.Labels.{before, issuedState}
 use Rattle.units.specs.Limits.{lineTop}
 use Rattle.vote.specs.declared.digest.Digest.{Digest}
 use Rattle.vote.specs.declared.votes.Votes.{Votes}
 use Rattle.vote.specs.Decision.{decision}
-use Rattle.vote.specs.Vote.{Answers}
+use Rattle.vote.specs.Vote.{Answers, Decides}
 use Rattle.vote.proofs.Answer.{decision-exact}
 use Rattle.filter.specs.Compute.{newTotal, setPoints, computed}
 use Rattle.message.specs.declared.head.Head.{Head}
@@ -24,6 +24,8 @@ use Rattle.message.specs.declared.settings.Settings.{Settings}
 use Rattle.message.specs.declared.value.Message.{Message}
 use Rattle.message.specs.Message.{messageFits}
 use Rattle.message.specs.Settings.{settingsFit}
+use Rattle.plan.specs.declared.planned.Sent.{Sent}
+use Rattle.plan.specs.Votes.{possessed}
 use Rattle.lines.specs.declared.settle.Settling.{Settling}
 use Rattle.lines.specs.Reading.{readLine}
 use Rattle.lines.specs.Settings.{settingLines}
@@ -35,10 +37,15 @@ use Rattle.lines.proofs.WholeSettings.{Spelt as SettingsSpelt, whole as wholeAt
 use Rattle.lines.proofs.Wire.{taken}
 use Rattle.controller.specs.declared.state.Controller.{Controller}
 use Rattle.controller.specs.Sent.{sentMessage}
-use Rattle.controller.specs.Step.{stepped}
+use Rattle.controller.specs.State.{briefOf}
+use Rattle.controller.specs.Step.{votesWith, inputsFit, stepped}
+use Rattle.controller_laws.specs.Judging.{Judged}
 use Rattle.controller_laws.specs.Outcomes.{Settled, SentBy}
 use Rattle.controller_laws.specs.Outcomes.SentBy.{query, reply, advert, update, floor, vote, setpoints}
 use Rattle.controller_laws.specs.Sendings.{IsSent}
+use Rattle.controller_laws.specs.Ways.{Votes as TakenIn}
+use Rattle.controller_laws.proofs.Decided.{decided-for}
+use Rattle.controller_laws.proofs.Judging.{judged-exactly}
 use Rattle.controller_laws.proofs.Outcomes.{sent-by}
 use Rattle.session.specs.declared.feed.Session.{Session}
 use Rattle.session.specs.declared.stage.Core.{Core}
@@ -61,9 +68,18 @@ turn-at c line stage e t = rw e (hears-taken (stepping c) c (saidBy c line) t)
 pub turn-steps : (c : Core) (line : List ℕ) → c .stage ≡ Running → readLine (groupIn c) line .verdict ≡ Taken → turn c line ≡ answered c (stepBy c line)
 turn-steps c line e t = turn-at c line (c .stage) e t
 
--- what is issued for `chosen` by the controller c: the state after the step and the targets of its S are those of 'Computing', from both labels, the state, the settings,
--- the chosen mask and the readings
-pub record Issued (s : Numbers) (c : Controller) (chosen : Digest) (n : Controller) (targets : List Float) : Type 0 where
+-- what is issued for `chosen` by the controller c that took the message h: why it is that digest, and that the state after the step and the targets of its S are
+-- those of 'Computing', from both labels, the state, the settings, the chosen mask and the readings
+pub record Issued (s : Numbers) (c : Controller) (h : Head) (chosen : Digest) (n : Controller) (targets : List Float) : Type 0 where
+  -- a vote was taken in while voting, and with it in its seat the votes held are decided for the digest: every completion has it as winner
+  pub seat : ℕ
+  pub digest : Digest
+  pub first : Sent
+  pub vote : TakenIn c h seat digest first
+  pub decided : Decides (votesWith s c seat digest) chosen
+  -- its measurements and its state are here, and the state label lies below the label
+  pub here : possessed (briefOf c) chosen ≡ true
+  pub older : before (chosen .state) (c .label) ≡ true
   pub label : n .state ≡ issuedState (c .label)
   pub state : n .estimates ≡ computed (c .label) (c .state) (c .estimates) s (chosen .mask) (c .readings) .state
   pub given : targets ≡ computed (c .label) (c .state) (c .estimates) s (chosen .mask) (c .readings) .targets
@@ -73,14 +89,25 @@ module _ (s : Numbers) (c : Controller) (a : Message) where
   abbrev n : Controller
   n = stepped s c a .next
 
-  settled-issue : {chosen : Digest} → Settled s c (a .head) chosen n → Issued s c chosen n (setPoints s (n .estimates))
+  settled-issue : {chosen : Digest} → Settled s c (a .head) chosen n → Issued s c (a .head) chosen n (setPoints s (n .estimates))
   unfolding computed newTotal setPoints
-  settled-issue t =
-      record { label = ap (λ (k : Controller). k .state) (t .next); state = ap (λ (k : Controller). k .estimates) (t .next); given = ap (λ (k : Controller). setPoints s (k .estimates)) (t .next) }
+  settled-issue {chosen} t =
+      record {
+        seat = t .seat;
+        digest = t .digest;
+        first = t .first;
+        vote = t .vote;
+        decided = decided-for (votesWith s c (t .seat) (t .digest)) chosen (t .chose);
+        here = t .here;
+        older = t .older;
+        label = ap (λ (k : Controller). k .state) (t .next);
+        state = ap (λ (k : Controller). k .estimates) (t .next);
+        given = ap (λ (k : Controller). setPoints s (k .estimates)) (t .next);
+      }
 
-  sent-issue : {head : Head} → SentBy s c (a .head) n head → (j : ℕ) (l : RoundLabel) (chosen : Digest) → head ≡ Setpoints j l chosen → Issued s c chosen n (sentMessage s n head head .targets)
+  sent-issue : {head : Head} → SentBy s c (a .head) n head → (j : ℕ) (l : RoundLabel) (chosen : Digest) → head ≡ Setpoints j l chosen → Issued s c (a .head) chosen n (sentMessage s n head head .targets)
   unfolding sentMessage
-  sent-issue (setpoints {chosen} t) j l d q = let y : chosen ≡ d = cc in subst (λ (k : Digest). Issued s c k n (setPoints s (n .estimates))) y (settled-issue t)
+  sent-issue (setpoints {chosen} t) j l d q = let y : chosen ≡ d = cc in subst (λ (k : Digest). Issued s c (a .head) k n (setPoints s (n .estimates))) y (settled-issue t)
   sent-issue (query e) j l chosen q = let z : _≡_ {A = ℕ} 0 1 = cc in absurd (omega arith)
   sent-issue (reply asked e) j l chosen q = let z : _≡_ {A = ℕ} 0 1 = cc in absurd (omega arith)
   sent-issue (advert e) j l chosen q = let z : _≡_ {A = ℕ} 0 1 = cc in absurd (omega arith)
@@ -89,7 +116,7 @@ module _ (s : Numbers) (c : Controller) (a : Message) where
   sent-issue (vote e p) j l chosen q = let z : _≡_ {A = ℕ} 0 1 = cc in absurd (omega arith)
 
   issue-computed : (sender : ℕ) (label : RoundLabel) (chosen : Digest) → IsSent (stepped s c a) (Setpoints sender label chosen)
-      → Issued s c chosen n (sentMessage s n (Setpoints sender label chosen) (Setpoints sender label chosen) .targets)
+      → Issued s c (a .head) chosen n (sentMessage s n (Setpoints sender label chosen) (Setpoints sender label chosen) .targets)
   issue-computed sender label chosen e = sent-issue (sent-by s c a (Setpoints sender label chosen) e) sender label chosen refl
 
 pub record Demand2 : Type 0 where
@@ -106,9 +133,12 @@ pub record Demand2 : Type 0 where
   -- "Every step does what the Quarts report and document 01 define, bit for bit": a line that is read by a running controller is one step of `stepped`,
   -- next state and answer ..
   pub each-step : (c : Core) (line : List ℕ) → c .stage ≡ Running → readLine (groupIn c) line .verdict ≡ Taken → turn c line ≡ answered c (stepBy c line)
-  -- .. whenever an S goes out, the state after it and its targets are filter's `computed` in IEEE 754 binary64, of what the controller held ..
+  -- .. whenever an S goes out, it names what the votes held are decided for and what is here, and the state after it and its targets are filter's `computed` in IEEE 754 binary64, of what the controller held ..
   pub each-issue : (s : Numbers) (c : Controller) (a : Message) (sender : ℕ) (label : RoundLabel) (chosen : Digest) → IsSent (stepped s c a) (Setpoints sender label chosen)
-      → Issued s c chosen (stepped s c a .next) (sentMessage s (stepped s c a .next) (Setpoints sender label chosen) (Setpoints sender label chosen) .targets)
+      → Issued s c (a .head) chosen (stepped s c a .next) (sentMessage s (stepped s c a .next) (Setpoints sender label chosen) (Setpoints sender label chosen) .targets)
+  -- .. and whenever a vote is taken in while voting, it is judged: decided and here, S goes out; decided and not here, 13; decided for no digest, nothing more ..
+  pub each-vote : (s : Numbers) (c : Controller) (a : Message) → inputsFit s c a ≡ true → {seat : ℕ} {digest : Digest} {first : Sent} → TakenIn c (a .head) seat digest first
+      → Judged s c seat digest first (stepped s c a)
   -- .. from the first byte of an input to the last, however it is cut: the bytes written are those of `station`, which goes by such turns alone
   pub whole-input : {input out : List ℕ} {y : Session} → Feeds sessionStart input out y → (buf : List ℕ) → lineTop ≤ length buf
       → out ++ take (finished y (length buf) .wrote) (bufferOf (lastTurn y .text) buf) ≡ station input
@@ -125,6 +155,7 @@ demand2 =
       settings-spelling = settings-only;
       each-step = turn-steps;
       each-issue = issue-computed;
+      each-vote = judged-exactly;
       whole-input = whole;
       decided-exactly = decision-exact;
     }

@@ -1,24 +1,18 @@
 -- `Controller::step` meets its contract. Assumes nothing.
-use mathlib.Core.Path.{refl, sym, _∙_}
-use Rattle.units.proofs.Picked.{by-yes, by-no}
-use Rattle.controller.specs.Step.{stepped}
+use mathlib.Core.Path.{ap, _∙_}
+use Rattle.controller.specs.Told.{told}
 use borrow.Author.Needs.{needs}
 use Rattle.controller.proofs.state.Controller.step.Statement.{statement}
 use Rattle.controller.proofs.state.Controller.step.Tie as tie
 
-inputs-in-range-requires : tie.Need-inputs-in-range-requires
-inputs-in-range-requires c κs = search needs
+checked-requires : tie.Need-checked-requires
+checked-requires c κs = search needs
 
-advance-requires : tie.Need-advance-requires
-advance-requires c κs = search needs
+tell-requires : tie.Need-tell-requires
+tell-requires c κs = search needs
 
 returns : tie.Need-returns
-unfolding stepped
-returns c = by-yes _ (sym (c .before .before .inputs-in-range .ensures) ∙ c .before .if1 .taken) (c .advance .ensures)
-
-returns-2 : tie.Need-returns-2
-unfolding stepped
-returns-2 c = by-no _ (sym (c .before .inputs-in-range .ensures) ∙ c .if1 .left) refl
+returns c = c .tell .ensures ∙ ap (told _) (c .before .checked .ensures)
 
 pub step-spec : {M : Type 1} → statement M
-step-spec = tie.close (tie.spec inputs-in-range-requires advance-requires returns returns-2)
+step-spec = tie.close (tie.spec checked-requires tell-requires returns)
