@@ -8,9 +8,11 @@ pub mod Long
 pub mod Lines
 pub mod Carrying
 pub mod Room
-pub mod Running
+pub mod Repeating
 pub mod Adding
+pub mod Exact
 pub mod Serving
+pub mod Handling
 pub mod Whole
 pub mod Example
 pub mod Runs

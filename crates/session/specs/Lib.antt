@@ -1,7 +1,9 @@
 -- The definitions of `session`.
 pub mod Turn
 pub mod Feeding
+pub mod Repeat
 pub mod Serving
+pub mod Handling
 pub mod Station
 pub mod Example
 pub mod Reach
