@@ -2,7 +2,7 @@
 use Prim.Native.Nat.{ℕ, zero, suc, _+_, _-_, _*_, _≤_, _<_}
 use native.Mathlib.Omega.{arith}
 use mathlib.Core.Path.{_≡_, refl, sym, ap, ap₂, _∙_}
-use mathlib.Core.List.{List, []}
+use mathlib.Core.List.{List, [], _++_}
 use mathlib.Core.Bool.{Bool, true, false, _&&_, true≢false}
 use lib.Dec.{leb, ltb}
 use lib.ListN.{length, take, drop, length-drop}
@@ -15,15 +15,21 @@ use Rattle.fields.proofs.Cases.{by-lt}
 use Rattle.lines.specs.Writing.{bufferOf}
 use Rattle.session.specs.declared.feed.Fed.{Fed}
 use Rattle.session.specs.declared.feed.Session.{Session}
-use Rattle.session.specs.Handling.{callsOn, handled, handledText, roomVerdict, serveRun}
+use Rattle.session.specs.Booting.{inputOf}
+use Rattle.session.specs.Feeding.{finished, lastTurn, sessionStart}
+use Rattle.session.specs.Handling.{Hands, callsOn, handled, handledText, roomVerdict, serveRun}
+use Rattle.session.specs.Handling.Hands.{none as no-hands, more as more-hands}
 use Rattle.session.specs.Pieces.{Feeds}
+use Rattle.session.specs.Pieces.Feeds.{none}
 use Rattle.session.specs.Repeat.{runOn}
 use Rattle.session.specs.Serving.{served, servedText}
+use Rattle.session.specs.Station.{station}
 use Rattle.session.proofs.Both.{mid-rest}
-use Rattle.session.proofs.Exact.{run-exact}
+use Rattle.session.proofs.Exact.{feeds-then, run-exact}
 use Rattle.session.proofs.Repeating.{Going, Moves, Moving, call-within, goes-lent, kept-length, lent-length, run-few, run-goes, stops}
 use Rattle.session.proofs.Room.{buffer-length, front-take}
 use Rattle.session.proofs.Serving.{served-exact, served-text, serve-took, serve-takes, serve-wrote}
+use Rattle.session.proofs.Whole.{whole}
 
 -- WHETHER THERE IS ANOTHER CALL
 module _ (input : List ℕ) (room : ℕ) where
@@ -87,11 +93,21 @@ handed x input before r after h =
 pub handed-some : (x : Session) (input : List ℕ) (room : ℕ) (r : Fed) → r ≡ handled x input room → 2 * lineTop ≤ room → 1 ≤ length input → 1 ≤ r .took
 handed-some x input room r e h k = rw e (handled-some x input room h k)
 
--- THE WAYS OF THE LOOP
-abbrev pub Blocks : Session → List ℕ → List ℕ → Session → ℕ → ℕ → List ℕ → Type 0
-Blocks = Going callsOn serveRun
+-- THE WHOLE INPUT in pieces handed over one after another, then its end: what was to be written is exactly the station program's output
+hands-feed : {x y : Session} {input : List ℕ} {texts : List (List ℕ)} → Hands x input texts y → Feeds x input (inputOf texts) y
+unfolding inputOf
+hands-feed no-hands = none
+hands-feed (more-hands f h) = feeds-then f (hands-feed h)
 
-module _ (x₀ : Session) (input before : List ℕ) {x : Session} {at filled : ℕ} {now : List ℕ} (h : Blocks x₀ input before x at filled now) where
+pub hands-whole : {input : List ℕ} {texts : List (List ℕ)} {y : Session} → Hands sessionStart input texts y → (buf : List ℕ) → lineTop ≤ length buf
+    → inputOf texts ++ take (finished y (length buf) .wrote) (bufferOf (lastTurn y .text) buf) ≡ station input
+hands-whole h buf l = whole (hands-feed h) buf l
+
+-- THE WAYS OF THE LOOP
+abbrev pub Calling : Session → List ℕ → List ℕ → Session → ℕ → ℕ → List ℕ → Type 0
+Calling = Going callsOn serveRun
+
+module _ (x₀ : Session) (input before : List ℕ) {x : Session} {at filled : ℕ} {now : List ℕ} (h : Calling x₀ input before x at filled now) where
   abbrev rest : List ℕ
   rest = drop at input
 
@@ -127,7 +143,7 @@ module _ (x₀ : Session) (input before : List ℕ) {x : Session} {at filled : �
         → (r ≡ served x (midOf at (length input - at) input) (length (midOf filled (length now - filled) now)))
         × (w ≡ bufferOf (servedText x (midOf at (length input - at) input) (length (midOf filled (length now - filled) now))) (midOf filled (length now - filled) now))
         → now′ ≡ putMid filled (length now - filled) now w
-        → (1 ≤ r .took) × (at + r .took ≤ length input) × (filled + r .wrote ≤ length now) × Blocks x₀ input before (r .next) (at + r .took) (filled + r .wrote) now′
+        → (1 ≤ r .took) × (at + r .took ≤ length input) × (filled + r .wrote ≤ length now) × Calling x₀ input before (r .next) (at + r .took) (filled + r .wrote) now′
     goes-served {r} {w} {now′} s l =
         let m = serve-moves rest left x go in
         let pe : midOf at (length input - at) input ≡ rest = mid-rest at input in

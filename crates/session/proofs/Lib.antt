@@ -12,8 +12,8 @@ pub mod Repeating
 pub mod Adding
 pub mod Exact
 pub mod Serving
-pub mod Handling
 pub mod Whole
+pub mod Handling
 pub mod Example
 pub mod Runs
 pub mod Verdicts

@@ -1,7 +1,7 @@
 -- A BLOCK OF INPUT: as much of it as there is room to answer, by calls of `serve` one after another, each lent the rest of the buffer.
 -- That this is a run of calls of `feed` on exactly the bytes that it takes is proofs/Handling.antt.
 use Prim.Native.Nat.{ℕ, _*_}
-use mathlib.Core.List.{List}
+use mathlib.Core.List.{List, [], _∷_, _++_}
 use mathlib.Core.Bool.{Bool, _&&_}
 use lib.Dec.{leb, ltb}
 use lib.ListN.{length}
@@ -12,6 +12,7 @@ use Rattle.units.specs.Limits.{lineTop}
 use Rattle.units.specs.Pick.{pick}
 use Rattle.session.specs.declared.feed.Fed.{Fed}
 use Rattle.session.specs.declared.feed.Session.{Session}
+use Rattle.session.specs.Pieces.{Feeds}
 use Rattle.session.specs.Repeat.{Run, runOn}
 use Rattle.session.specs.Serving.{served, servedText}
 
@@ -37,3 +38,8 @@ handled x input room = handledBy (handleRun x input room) room
 
 unfoldable pub handledText : Session → List ℕ → ℕ → List ℕ
 handledText x input room = handleRun x input room .text
+
+-- PIECES HANDED OVER one after another, as a program does it: for each the bytes taken, and the bytes to write, which a run of calls says of just these
+pub data Hands : Session → List ℕ → List (List ℕ) → Session → Type 0 where
+  none : {x : Session} → Hands x [] [] x
+  more : {x y z : Session} {taken text rest : List ℕ} {texts : List (List ℕ)} → Feeds x taken text y → Hands y rest texts z → Hands x (taken ++ rest) (text ∷ texts) z

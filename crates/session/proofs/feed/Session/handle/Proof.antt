@@ -6,13 +6,13 @@ use lib.ListN.{length}
 use borrow.Author.Needs.{needs}
 use Rattle.session.specs.Handling.{callsOn, serveRun}
 use Rattle.session.proofs.Adding.{sum-fits}
-use Rattle.session.proofs.Handling.{Blocks, ends, goes-served, same-length as kept}
+use Rattle.session.proofs.Handling.{Calling, ends, goes-served, same-length as kept}
 use Rattle.session.proofs.Repeating.{filled-few, starts}
 use Rattle.session.proofs.feed.Session.handle.Statement.{statement}
 use Rattle.session.proofs.feed.Session.handle.Tie as tie
 
 abbrev Inv-loop : tie.InvT-loop
-Inv-loop input out₀ next₀ at₀ filled₀ out next at filled = Blocks next₀ input out₀ next at filled out
+Inv-loop input out₀ next₀ at₀ filled₀ out next at filled = Calling next₀ input out₀ next at filled out
 
 abbrev μ-loop : tie.MeasureT-loop
 μ-loop input out₀ next₀ at₀ filled₀ out next at filled = length input - at
