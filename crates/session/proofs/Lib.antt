@@ -6,11 +6,13 @@ pub mod Same
 pub mod Long
 pub mod Carrying
 pub mod Room
-pub mod Running
+pub mod Repeating
 pub mod Adding
+pub mod Exact
 pub mod Serving
 pub mod Whole
 pub mod Led
+pub mod Handling
 pub mod Example
 pub mod Runs
 pub mod Verdicts

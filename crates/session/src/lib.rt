@@ -2,6 +2,7 @@
 pub mod answer;
 pub mod carry;
 pub mod feed;
+pub mod handle;
 pub mod run;
 pub mod serve;
 pub mod stage;

@@ -1,16 +1,18 @@
-// Lines one after another: while a controller runs and lines are in order, its state stays where it is from one to the next.
+// Lines one after another: while a controller runs, its state stays where it is from one to the next.
 ghost use mathlib.Core.Path.{_≡_};
 ghost use lib.ListN.{length};
 ghost use Rattle.lines.specs.Writing.{answerOf, bufferOf};
 ghost use Rattle.session.specs.Feeding.{doneLength, putText};
-ghost use Rattle.session.specs.Serving.{AddedBy, isTaken, ran, runOf};
+ghost use Rattle.session.specs.Serving.{AddedBy, planLine, ran, runOf};
 use crate::answer::length_of;
 use crate::answer::put_answer;
 use controller::Controller;
 use lines::read::read_first;
 use message::Head;
+use message::Message;
 use plan::Change;
 use plan::Plan;
+use plan::planned::refusal;
 use units::Numbers;
 use units::Verdict;
 use units::limits::LINE;
@@ -25,23 +27,27 @@ pub struct Ran {
     pub(crate) wrote: usize,
 }
 
-fn is_taken(verdict: Verdict) -> bool
-    ensures { λ r. ⌜ r ≡ isTaken verdict ⌝ }
+// The reading that a line adds, where it leads to that and to nothing else.
+fn added_by(c: Controller, head: Head, verdict: Verdict) -> Change
+    ensures { λ r. ⌜ AddedBy c head verdict r ⌝ }
 {
-    match verdict {
-        Verdict::Taken => true,
-        Verdict::Refused(_) => false,
-    }
-}
-
-// The reading that a message adds, where it leads to that and to nothing else.
-fn added_by(c: Controller, head: Head) -> Change
-    ensures { λ r. ⌜ AddedBy c head r ⌝ }
-{
+    let Verdict::Taken = verdict else {
+        return Change::More;
+    };
     let Head::Reading { label, run, raw } = head else {
         return Change::More;
     };
     c.reading_change(label, run, raw)
+}
+
+// What a line leads to: a refused one to its X and to nothing else.
+fn plan_line(c: Controller, numbers: Numbers, message: Message, verdict: Verdict) -> Plan
+    ensures { λ r. ⌜ r ≡ planLine numbers c message (message .head) verdict ⌝ }
+{
+    match verdict {
+        Verdict::Taken => c.plan(numbers, message),
+        Verdict::Refused(why) => refusal(why),
+    }
 }
 
 // Writes what a plan sends and says, after the step.
@@ -54,7 +60,7 @@ fn put_plan(c: Controller, numbers: Numbers, plan: Plan, out: &mut [u8]) -> usiz
     length_of(put_answer(c, numbers, first, second, verdict, out))
 }
 
-// Serves a running controller's lines as long as the next one is whole and in order, and there is room for two lines.
+// Serves a running controller's lines as long as the next one is whole and there is room for two lines.
 // The common reading is put in its place; whatever else comes is planned, and changes the controller where it does.
 pub(crate) fn run_lines(c: Controller, numbers: Numbers, input: &[u8], out: &mut [u8]) -> Ran
     ensures { λ r. ⌜ (r ≡ ran (runOf numbers c (now (input .entry)) (length (now (out .entry))))) × (now (out .exit) ≡ bufferOf (runOf numbers c (now (input .entry)) (length (now (out .entry))) .text) (now (out .entry))) ⌝ }
@@ -70,15 +76,15 @@ pub(crate) fn run_lines(c: Controller, numbers: Numbers, input: &[u8], out: &mut
         let verdict = line.verdict;
         let message = line.message;
         let head = message.head;
-        if (feed == input.len() - at) | !is_taken(verdict) {
+        if feed == input.len() - at {
             break;
         }
-        let change = added_by(next, head);
+        let change = added_by(next, head, verdict);
         if let Change::Reading { run, raw } = change {
             let after = next.add(run, raw);
             next = after;
         } else {
-            let plan = next.plan(numbers, message);
+            let plan = plan_line(next, numbers, message, verdict);
             let effect = plan.effect;
             let size = effect.change();
             if let Change::Nothing = size {} else {

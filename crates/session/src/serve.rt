@@ -30,8 +30,8 @@ impl Session {
         is_running(stage) & carry.is_empty()
     }
 
-    // Takes the next piece of the input as so many calls of `feed` would: up to the end of one line, and then each whole line in order
-    // while there is room for two lines.
+    // Takes the next piece of the input as so many calls of `feed` would: up to the end of one line, and then each whole line while
+    // there is room for two lines.
     pub fn serve(self, input: &[u8], out: &mut [u8]) -> Fed
         ensures { λ r. ⌜ (r ≡ served self (now (input .entry)) (length (now (out .entry)))) × (now (out .exit) ≡ bufferOf (servedText self (now (input .entry)) (length (now (out .entry)))) (now (out .entry))) ⌝ }
     {

@@ -1,2 +1,3 @@
 -- What `station` is to do.
+pub mod Calls
 pub mod Serving

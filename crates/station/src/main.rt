@@ -1,69 +1,94 @@
-// The station program: reads in blocks, hands them to a session, and writes every answer before it waits for more.
+// The station program: reads a block, hands it to the session, writes what it answers, and stops at the first failure.
+mod call;
+mod hear;
+mod say;
+
 ghost use mathlib.Core.Path.{_≡_};
+ghost use mathlib.Core.Bool.{_&&_, not};
 ghost use Prim.Native.Nat.{_+_, _-_, _*_, _≤_};
-ghost use lib.Dec.{eqb};
+ghost use lib.Dec.{eqb, ltb};
 ghost use lib.ListN.{length, take};
 ghost use Rattle.units.specs.Limits.{lineTop};
 ghost use Rattle.units.specs.Pick.{pick};
-ghost use Rattle.session.specs.Serving.{served};
-ghost use Rattle.station.specs.Serving.{Led};
-use libc::STDIN_FILENO;
+ghost use Rattle.station.specs.Serving.{Hand, Handover};
+use call::budget;
+use hear::Heard;
+use hear::hear;
+use libc::STDERR_FILENO;
 use libc::STDOUT_FILENO;
-use session::Fed;
+use say::say;
 use session::Session;
-use units::limits::LINE;
 
-// Two lines' room, which is always enough.
-const ROOM: usize = 2 * LINE;
-
-// More blocks than any station lives to read.
-const BLOCKS: u64 = 18446744073709551615;
-
-// Writes the first n bytes.
-fn say(text: &[u8], n: usize)
-    requires { ⌜ n ≤ length (now text) ⌝ }
-{
-    io::write_all(STDOUT_FILENO, &text[..n]);
+// A session that was handed something: how much it took, how much it answered, and whether that was written.
+struct Handed {
+    next: Session,
+    took: usize,
+    wrote: usize,
+    written: bool,
 }
 
-// How much of the buffer is filled, with two lines' room left: what is there is written where the room would be short.
-fn with_room(out: &[u8], filled: usize) -> usize
-    requires { ⌜ (filled ≤ length (now out)) × (2 * lineTop ≤ length (now out)) ⌝ }
-    ensures { λ r. ⌜ r + 2 * lineTop ≤ length (now (out .entry)) ⌝ }
+// Hands the session what is left of a block, and writes what it answers.
+fn hand(session: Session, piece: &[u8], out: &mut [u8]) -> Handed
+    requires { ⌜ (1 ≤ length (now piece)) × (2 * lineTop ≤ length (now out)) ⌝ }
+    ensures { λ r. ⌜ Hand session (now (piece .entry)) (r .took) (take (r .wrote) (now (out .exit))) (r .next) ⌝ }
 {
-    if out.len() - filled < ROOM {
-        say(out, filled);
-        return 0;
+    let fed = session.handle(piece, out);
+    let next = fed.next;
+    let took = fed.took;
+    let wrote = fed.wrote;
+    let written = say(STDOUT_FILENO, out, wrote);
+    Handed {
+        next,
+        took,
+        wrote,
+        written,
     }
-    filled
 }
 
-// Hands the session a piece, with the buffer from a place on for its answers.
-fn hand(session: Session, piece: &[u8], out: &mut [u8], start: usize) -> Fed
-    requires { ⌜ (1 ≤ length (now piece)) × (start + 2 * lineTop ≤ length (now out)) ⌝ }
-    ensures { λ r. ⌜ (1 ≤ r .took) × (r .took ≤ length (now (piece .entry))) × (start + r .wrote ≤ length (now (out .entry))) × (r ≡ served session (now (piece .entry)) (length (now (out .entry)) - start)) ⌝ }
+// Whether more of a block is handed over: nothing after a write that failed.
+fn goes_on(at: usize, have: usize, written: bool) -> bool
+    ensures { λ r. ⌜ r ≡ (ltb at have && written) ⌝ }
 {
-    session.serve(piece, &mut out[start..])
+    (at < have) & written
 }
 
-// Hands the first bytes of a block to the session, as many lines at a time as there is room for, and writes all that it answers.
-fn serve(session: Session, block: &[u8], have: usize, out: &mut [u8]) -> Session
-    requires { ⌜ (have ≤ length (now block)) × (2 * lineTop ≤ length (now out)) × (length (now out) ≤ 65536) ⌝ }
-    ensures { λ r. ⌜ Led session (take have (now (block .entry))) r ⌝ }
+// A session after a block, and whether all its answers were written.
+struct Served {
+    next: Session,
+    written: bool,
+}
+
+// Hands the first bytes of a block to the session, piece by piece.
+fn serve(session: Session, block: &[u8], have: usize, out: &mut [u8]) -> Served
+    requires { ⌜ (have ≤ length (now block)) × (2 * lineTop ≤ length (now out)) ⌝ }
+    ensures { λ r. ⌜ Handover session (take have (now (block .entry))) (r .written) (r .next) ⌝ }
 {
     let mut next = session;
     let mut at: usize = 0;
-    let mut filled: usize = 0;
-    while at < have {
-        let start = with_room(out, filled);
-        let fed = hand(next, &block[at..have], out, start);
-        let after = fed.next;
+    let mut written = true;
+    while goes_on(at, have, written) {
+        let handed = hand(next, &block[at..have], out);
+        let after = handed.next;
         next = after;
-        at += fed.took;
-        filled = start + fed.wrote;
+        at += handed.took;
+        written = handed.written;
     }
-    say(out, filled);
-    next
+    Served { next, written }
+}
+
+// How many more blocks may be read: none after the end of the input or of the session, or after a failure.
+fn blocks_left(left: u64, heard: Heard, written: bool, ended: bool) -> u64
+    requires { ⌜ 1 ≤ left ⌝ }
+    ensures { λ r. ⌜ (r + 1 ≤ left) × (r ≡ pick (ltb 0 (heard .have) && ((heard .ok) && (written && not ended))) (left - 1) 0) ⌝ }
+{
+    if (0 < heard.have) & heard.ok & written & !ended {
+        return left - 1;
+    }
+    0
+}
+
+fn output_failed() {
+    io::write_all(STDERR_FILENO, b"station: output failed\n");
 }
 
 // Writes what the end of the input leads to.
@@ -71,21 +96,24 @@ fn close(session: Session, out: &mut [u8])
     requires { ⌜ 2 * lineTop ≤ length (now out) ⌝ }
 {
     let fed = session.finish(out);
-    say(out, fed.wrote);
+    if !say(STDOUT_FILENO, out, fed.wrote) {
+        output_failed();
+    }
 }
 
-// How many more blocks may be read: none after the end of the input, or of the session.
-fn blocks_left(left: u64, have: usize, ended: bool) -> u64
-    requires { ⌜ 1 ≤ left ⌝ }
-    ensures { λ r. ⌜ (r + 1 ≤ left) × (r ≡ pick (eqb have 0) 0 (pick ended 0 (left - 1))) ⌝ }
+// The end: of the input, which is answered, or by a failure, which standard error is told.
+fn part(session: Session, read: bool, written: bool, out: &mut [u8])
+    requires { ⌜ 2 * lineTop ≤ length (now out) ⌝ }
 {
-    if have == 0 {
-        return 0;
+    if !written {
+        output_failed();
+        return;
     }
-    if ended {
-        return 0;
+    if !read {
+        io::write_all(STDERR_FILENO, b"station: input failed\n");
+        return;
     }
-    left - 1
+    close(session, out);
 }
 
 fn main() {
@@ -94,12 +122,17 @@ fn main() {
     let mut room = io::large_buffer();
     let block: &mut [u8] = &mut space;
     let out: &mut [u8] = &mut room;
-    let mut left = BLOCKS;
+    let mut read = true;
+    let mut written = true;
+    let mut left = budget();
     while 0 < left {
-        let have = io::count(libc::read(STDIN_FILENO, block), block);
-        let after = serve(session, block, have, out);
+        let heard = hear(block);
+        let served = serve(session, block, heard.have, out);
+        let after = served.next;
         session = after;
-        left = blocks_left(left, have, session.ended());
+        read = heard.ok;
+        written = served.written;
+        left = blocks_left(left, heard, written, session.ended());
     }
-    close(session, out);
+    part(session, read, written, out);
 }

@@ -1,0 +1,31 @@
+-- `plan_line` meets its contract. Assumes nothing.
+use borrow.Author.Needs.{needs}
+use Rattle.units.proofs.Picked.{along}
+use Rattle.session.specs.Serving.{planLine}
+use Rattle.session.proofs.run.plan_line.Statement.{statement}
+use Rattle.session.proofs.run.plan_line.Tie as tie
+
+enum-told : tie.Need-enum-told
+enum-told c = search needs
+
+plan-requires : tie.Need-plan-requires
+plan-requires c κs = search needs
+
+enum-known-verdict : tie.Need-enum-known-verdict
+enum-known-verdict c = search needs
+
+refusal-requires : tie.Need-refusal-requires
+refusal-requires c κs = search needs
+
+returns : tie.Need-returns
+unfolding planLine
+returns c = along (planLine _ _ _ _) (c .before .enum-told .given .1) (c .plan .ensures)
+
+returns-2 : tie.Need-returns-2
+unfolding planLine
+returns-2 c = along (planLine _ _ _ _) (c .before .before .verdict .given .1) (c .refusal .ensures)
+
+pub plan-line-spec : {M : Type 1} → statement M
+plan-line-spec =
+    tie.close
+    (tie.spec enum-told plan-requires enum-known-verdict refusal-requires returns returns-2)
