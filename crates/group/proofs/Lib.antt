@@ -10,7 +10,9 @@ pub mod Theorem
 pub mod Named
 pub mod Host
 pub mod Wire
+pub mod Texts
 pub mod Stations
+pub mod Programs
 pub mod Examples
 pub mod WireExamples
 pub mod StationExamples
