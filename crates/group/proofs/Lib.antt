@@ -16,5 +16,6 @@ pub mod Programs
 pub mod Examples
 pub mod WireExamples
 pub mod StationExamples
+pub mod Computes
 pub mod Witnesses
 pub mod Schedules
