@@ -31,7 +31,7 @@ use Rattle.controller.specs.Sent.{sentMessage}
 use Rattle.controller.specs.Step.{judgedIn, judgedPlan, planned, inputsFit, stepped}
 use Rattle.controller_laws.specs.Session.{estimateBits, line}
 use Rattle.group.specs.World.{put}
-use Rattle.group.specs.Scripts.{played, exchanged, marked, highest, fairly, fair, allFair, writable, allWritable, inOrder}
+use Rattle.group.specs.Scripts.{played, exchanged, marked, highest, fairly, fair, allFair, writable, allWritable, refusals, inOrder}
 use Rattle.group.specs.Examples.{steady}
 
 -- binary64 and its bits
@@ -86,7 +86,7 @@ step-computes = tt
 
 -- scripts and their test
 unfoldable pub script-computes : Unit {0}
-unfolding put played exchanged marked highest fairly fair allFair writable allWritable inOrder steady estimateBits line
+unfolding put played exchanged marked highest fairly fair allFair writable allWritable refusals inOrder steady estimateBits line
 script-computes = tt
 
 unfoldable pub run-computes : Unit {0}

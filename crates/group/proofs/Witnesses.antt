@@ -1,4 +1,4 @@
--- THE PREMISES CAN BE MET: two runs that the checker computes, event by event, with all that is sent in them. Assumes nothing.
+-- THE PREMISES CAN BE MET: three runs that the checker computes, event by event, with all that is sent in them. Assumes nothing.
 use mathlib.Core.Path.{_≡_, refl}
 use mathlib.Core.Bool.{true}
 use Rattle.units.specs.Every.{every}
@@ -8,8 +8,8 @@ use Rattle.lines.specs.Lists.{column}
 use Rattle.controller_laws.specs.Session.{numbers}
 use Rattle.group.specs.World.{empty}
 use Rattle.group.specs.Premises.{Kept, here, Run}
-use Rattle.group.specs.Scripts.{played, allFair, allWritable, saying}
-use Rattle.group.specs.Examples.{steady, session, sessionSays, three, returning, returningSays, certified}
+use Rattle.group.specs.Scripts.{played, allFair, allWritable, refusals, saying}
+use Rattle.group.specs.Examples.{steady, session, sessionSays, three, returning, returningSays, mixed, mixedNumbers, mixedSays, certified}
 use Rattle.group.specs.Wire.{OnwardLines, silent}
 use Rattle.group.specs.Wire as Lines
 use Rattle.group.proofs.Examples.{scripted}
@@ -43,6 +43,22 @@ pub returning-says : saying three (played three empty returning) ≡ returningSa
 unfolding run-computes three returning returningSays
 returning-says = refl
 
+-- all three controllers issue one label, each from other votes, after a round that ended undecided: a run that keeps every premise, all that is sent in it, and every refusal
+mixed-fair : allFair three steady empty mixed ≡ true
+unfolding run-computes three mixed
+mixed-fair = refl
+
+pub mixed-run : Run three (Kept steady) (played three empty mixed)
+mixed-run = scripted three steady empty empty mixed here mixed-fair
+
+pub mixed-says : saying three (played three empty mixed) ≡ mixedSays
+unfolding run-computes three mixed mixedSays
+mixed-says = refl
+
+pub mixed-refused : refusals three empty mixed ≡ mixedNumbers
+unfolding run-computes three mixed mixedNumbers
+mixed-refused = refl
+
 -- every message in them can be written
 session-written : allWritable numbers session ≡ true
 unfolding run-computes numbers session
@@ -52,12 +68,19 @@ returning-written : allWritable three returning ≡ true
 unfolding run-computes three returning
 returning-written = refl
 
--- the same two runs over lines
+mixed-written : allWritable three mixed ≡ true
+unfolding run-computes three mixed
+mixed-written = refl
+
+-- the same runs over lines
 pub session-lines : OnwardLines numbers steady silent (wireOf numbers steady (played numbers empty session))
 session-lines = scripted-lines numbers steady empty session here Lines.here session-fair session-written
 
 pub returning-lines : OnwardLines three steady silent (wireOf three steady (played three empty returning))
 returning-lines = scripted-lines three steady empty returning here Lines.here returning-fair returning-written
+
+pub mixed-lines : OnwardLines three steady silent (wireOf three steady (played three empty mixed))
+mixed-lines = scripted-lines three steady empty mixed here Lines.here mixed-fair mixed-written
 
 -- and of stations, which have the session's certificates
 pub session-certified : settingsFit (certified numbers) ≡ true
@@ -73,3 +96,6 @@ session-stations = stood (certified numbers) session-certified steady session-li
 
 pub returning-stations : Stood (certified three) returning-certified steady (wireOf three steady (played three empty returning))
 returning-stations = stood (certified three) returning-certified steady returning-lines
+
+pub mixed-stations : Stood (certified three) returning-certified steady (wireOf three steady (played three empty mixed))
+mixed-stations = stood (certified three) returning-certified steady mixed-lines
