@@ -1,14 +1,16 @@
 -- What comes later: a run that goes on is a run, and what was sent stays sent. Assumes nothing.
 use Prim.Native.Nat.{ℕ}
-use mathlib.Core.List.{List·Memᴰ, List·Memᴰ·not-nil}
+use mathlib.Core.Path.{_≡_, subst}
+use mathlib.Core.List.{List, List·Memᴰ, List·Memᴰ·not-nil}
 use mathlib.Core.Logic.{⊎-elim}
 use mathlib.Core.Option.{Option, none, some}
 use Rattle.units.specs.declared.settings.Numbers.{Numbers}
 use Rattle.message.specs.declared.value.Message.{Message}
 use Rattle.controller.specs.declared.state.Controller.{Controller}
 use Rattle.controller.specs.Step.{stepped}
-use Rattle.group.specs.World.{World, Event, hand, store, crash, handed, after}
-use Rattle.group.specs.Premises.{Handing, Onward, here, next, Run}
+use Rattle.group.specs.World.{Mark, World, Event, hand, store, crash, handed, after}
+use Rattle.group.specs.Premises.{Meters, StoredFirst, HighestFloor, Kept, Handing, Onward, here, next, Run}
+use Rattle.group.specs.Wire.{Wire, KeptLine}
 use Rattle.group.proofs.Sent.{Fresh, new-or-old, still-sent}
 
 pub continued : {s : Numbers} {P : Handing} {u w v : World} → Onward s P u w → Onward s P w v → Onward s P u v
@@ -41,3 +43,26 @@ module _ (s : Numbers) (Q : Message → Type 0) (each : (c : Controller) (a x : 
   every-sent (next {v} run (hand i a) p) x m = every-handed v (λ y n. every-sent run y n) i a (v .up i) x m
   every-sent (next {v} run (store i label) p) x m = every-sent run x m
   every-sent (next {v} run (crash i) p) x m = every-sent run x m
+
+-- ---- A CRASH INSIDE A TURN: where less was sent than the world has, and the premises hold of that, they hold of the world. Each clause asks that something was sent, and none that something was not
+module _ (meters : Meters) (i : ℕ) where
+  pub more-sent : (w v : World) (a : Message) → ((x : Message) → List·Memᴰ x (w .sent) → List·Memᴰ x (v .sent)) → w .stored ≡ v .stored → w .confirmed ≡ v .confirmed → Kept meters w i a → Kept meters v i a
+  more-sent w v a f p q k =
+      record {
+        one-reading = k .one-reading;
+        own-number = k .own-number;
+        not-made-up = λ t. f a (k .not-made-up t);
+        stored-first = subst (λ (l : List Mark). StoredFirst l i a) p (k .stored-first);
+        highest-floor = subst (λ (l : List Mark). HighestFloor l i a) q (k .highest-floor);
+      }
+
+  pub more-lines : (w v : Wire) (line : List ℕ) (a : Message) → ((x : List ℕ) → List·Memᴰ x (w .sent) → List·Memᴰ x (v .sent)) → w .stored ≡ v .stored → w .confirmed ≡ v .confirmed
+      → KeptLine meters w i line a → KeptLine meters v i line a
+  more-lines w v line a f p q k =
+      record {
+        one-reading = k .one-reading;
+        own-number = k .own-number;
+        not-made-up = λ t. f line (k .not-made-up t);
+        stored-first = subst (λ (l : List Mark). StoredFirst l i a) p (k .stored-first);
+        highest-floor = subst (λ (l : List Mark). HighestFloor l i a) q (k .highest-floor);
+      }

@@ -10,9 +10,12 @@ pub mod Theorem
 pub mod Named
 pub mod Host
 pub mod Wire
+pub mod Texts
 pub mod Stations
+pub mod Programs
 pub mod Examples
 pub mod WireExamples
 pub mod StationExamples
+pub mod Computes
 pub mod Witnesses
 pub mod Schedules

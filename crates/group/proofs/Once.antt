@@ -31,7 +31,7 @@ use Rattle.controller_laws.proofs.Rises.{step-rises}
 use Rattle.controller_laws.proofs.Sendings.{sent-fits, vote-once}
 use Rattle.group.specs.World.{World, empty, hand, store, crash, put, withUp, sentBy, rising, answered, handed}
 use Rattle.group.specs.Premises.{Meters, Released, Enough, here, next, Run}
-use Rattle.group.proofs.Sent.{no-controller, same-controller, put-cases, risen-by, new-or-old, released-by, start-or-not}
+use Rattle.group.proofs.Sent.{no-one, same-one, put-cases, risen-by, new-or-old, released-by, start-or-not}
 
 -- what a vote that goes out by a step is: the own digest of a pending controller
 pub record OwnVote (c : Controller) (h : Head) (n : Controller) (i : ℕ) (label : RoundLabel) (d : Digest) : Type 0 where
@@ -68,11 +68,11 @@ module _ (s : Numbers) (meters : Meters) where
   once-empty : Once empty
   once-empty =
       record {
-        own = λ i c e. no-controller e;
-        fit = λ i c e. no-controller e;
+        own = λ i c e. no-one e;
+        fit = λ i c e. no-one e;
         lines = λ x m. absurd (List·Memᴰ·not-nil m);
-        bound = λ i c e. no-controller e;
-        early = λ i c e. no-controller e;
+        bound = λ i c e. no-one e;
+        early = λ i c e. no-one e;
         unique = λ i label d e p. absurd (List·Memᴰ·not-nil (p .among));
       }
 
@@ -125,7 +125,7 @@ module _ (s : Numbers) (meters : Meters) where
 
     module _ (m : May w i (r .next)) where
       stands-on : (j : ℕ) (n : Controller) → put (w .up) i (some (r .next)) j ≡ some n → ((j ≡ i) × (r .next ≡ n)) ⊎ ((j ≡ i → ⊥) × (w .up j ≡ some n))
-      stands-on j n e = elim (put-cases (w .up) i (some (r .next)) j n e) [ inl p ↦ inl (p .0, same-controller (p .1)) | inr p ↦ inr p ]
+      stands-on j n e = elim (put-cases (w .up) i (some (r .next)) j n e) [ inl p ↦ inl (p .0, same-one (p .1)) | inr p ↦ inr p ]
 
       old-for : (j : ℕ) (label : RoundLabel) (d : Digest) → j ≡ i → Released (w .sent) j label d → Released (w .sent) i label d
       old-for j label d e p = subst (λ (k : ℕ). Released (w .sent) k label d) e p
@@ -211,4 +211,4 @@ module _ (s : Numbers) (meters : Meters) where
   once (next {v} run (hand i a) p) = once-handed v (once run) i a p (v .up i) refl
   once (next {v} run (store i label) p) =
       let o = once run in record { own = o .own; fit = o .fit; lines = o .lines; bound = o .bound; early = o .early; unique = o .unique }
-  once (next {v} run (crash i) p) = once-put v (once run) i none (λ n e. no-controller e)
+  once (next {v} run (crash i) p) = once-put v (once run) i none (λ n e. no-one e)

@@ -4,13 +4,15 @@ use native.Mathlib.Omega.{arith}
 use mathlib.Core.Path.{_≡_, refl, sym, ap, subst, _∙_}
 use mathlib.Core.List.{List, List·Memᴰ, List·Memᴰ·head, List·Memᴰ·tail, List·Memᴰ·cases-cons}
 use mathlib.Core.Logic.{_⊎_, inl, inr, ⊎-elim}
-use mathlib.Core.Option.{Option, none, some}
+use mathlib.Core.Option.{Option, none, some, Option·some-injective, Option·none-ne-some}
 use lib.Dec.{eqb}
-use borrow.Author.Tests.{eqb-true, eqb-false}
+use borrow.Author.Tests.{eqb-true, eqb-false, eq-eqb}
 use Rattle.units.specs.declared.labels.RoundLabel.{RoundLabel}
 use Rattle.units.specs.declared.refusal.Verdict.{Verdict}
 use Rattle.units.specs.declared.refusal.Verdict.the-variants.{Taken, Refused as Denied}
 use Rattle.units.specs.declared.settings.Numbers.{Numbers}
+use Rattle.units.specs.Pick.{pick}
+use Rattle.fields.proofs.Cases.{by-test}
 use Rattle.vote.specs.declared.digest.Digest.{Digest}
 use Rattle.message.specs.declared.head.Head.{Head}
 use Rattle.message.specs.declared.head.Head.the-variants.{Reading, Query, Reply, Advert, Update, Vote, Setpoints, Due, CollectingEnds, VotingEnds, Floor, Start, Refused}
@@ -29,18 +31,26 @@ use Rattle.group.specs.World.{put, sending, sentBy, begun, rising}
 use Rattle.group.specs.Premises.{Released}
 
 -- ---- the controllers
-pub no-controller : {A : Type 0} {c : Controller} → none ≡ some c → A
-no-controller e = let z : _≡_ {A = ℕ} 0 1 = cc in absurd (omega arith)
+pub no-one : {A C : Type 0} {c : C} → none ≡ some c → A
+no-one {c = c} e = absurd (Option·none-ne-some c e)
 
-pub same-controller : {c n : Controller} → some c ≡ some n → c ≡ n
-same-controller e = cc
+pub same-one : {C : Type 0} {c n : C} → some c ≡ some n → c ≡ n
+same-one {c = c} {n = n} e = Option·some-injective c n e
 
--- a number's controller is the one that was put there, or it has another number
-pub put-cases : (up : ℕ → Option Controller) (i : ℕ) (o : Option Controller) (j : ℕ) (c : Controller) → put up i o j ≡ some c → ((j ≡ i) × (o ≡ some c)) ⊎ ((j ≡ i → ⊥) × (up j ≡ some c))
+-- what a number has is what was put there, or it is another number
+pub put-cases : {A : Type 0} (up : ℕ → Option A) (i : ℕ) (o : Option A) (j : ℕ) (c : A) → put up i o j ≡ some c → ((j ≡ i) × (o ≡ some c)) ⊎ ((j ≡ i → ⊥) × (up j ≡ some c))
 unfolding put
-put-cases up i o j c =
-    on-pick (λ (x : Option Controller). x ≡ some c → ((j ≡ i) × (o ≡ some c)) ⊎ ((j ≡ i → ⊥) × (up j ≡ some c))) (eqb j i)
+put-cases {A} up i o j c =
+    on-pick (λ (x : Option A). x ≡ some c → ((j ≡ i) × (o ≡ some c)) ⊎ ((j ≡ i → ⊥) × (up j ≡ some c))) (eqb j i)
     (λ e h. inl (eqb-true j i e, h)) (λ e h. inr (eqb-false j i e, h))
+
+pub put-there : {A : Type 0} (up : ℕ → Option A) (i : ℕ) (x : Option A) → put up i x i ≡ x
+unfolding put pick
+put-there up i x = rw (eq-eqb i i refl)
+
+pub put-same : {A : Type 0} (f : ℕ → Option A) (i j : ℕ) → put f i (f i) j ≡ f j
+unfolding put pick
+put-same f i j = by-test (eqb j i) (λ t. rw t (ap f (sym (eqb-true j i t)))) (λ t. rw t)
 
 -- a number that was down is up by a B alone, and by a start that was taken
 pub record Risen (s : Numbers) (h : Head) (n : Controller) : Type 0 where
@@ -54,20 +64,20 @@ pub risen-by : (s : Numbers) (h : Head) (n : Controller) → rising s h ≡ some
 risen-by s (Start own low) n e = from (started s own low .verdict) refl e
   where
     from : (v : Verdict) → started s own low .verdict ≡ v → begun (started s own low .controller) v ≡ some n → Risen s (Start own low) n
-    from Taken q e = record { own = own; low = low; by = refl; taken = q; is = sym (same-controller e) }
-    from (Denied why) q e = no-controller e
-risen-by s (Reading label run raw) n e = no-controller e
-risen-by s (Query sender label mask) n e = no-controller e
-risen-by s (Reply sender label mask) n e = no-controller e
-risen-by s (Advert sender state) n e = no-controller e
-risen-by s (Update sender state) n e = no-controller e
-risen-by s (Vote sender label digest) n e = no-controller e
-risen-by s (Setpoints sender label digest) n e = no-controller e
-risen-by s (Due label) n e = no-controller e
-risen-by s (CollectingEnds label) n e = no-controller e
-risen-by s (VotingEnds label) n e = no-controller e
-risen-by s (Floor label) n e = no-controller e
-risen-by s (Refused number) n e = no-controller e
+    from Taken q e = record { own = own; low = low; by = refl; taken = q; is = sym (same-one e) }
+    from (Denied why) q e = no-one e
+risen-by s (Reading label run raw) n e = no-one e
+risen-by s (Query sender label mask) n e = no-one e
+risen-by s (Reply sender label mask) n e = no-one e
+risen-by s (Advert sender state) n e = no-one e
+risen-by s (Update sender state) n e = no-one e
+risen-by s (Vote sender label digest) n e = no-one e
+risen-by s (Setpoints sender label digest) n e = no-one e
+risen-by s (Due label) n e = no-one e
+risen-by s (CollectingEnds label) n e = no-one e
+risen-by s (VotingEnds label) n e = no-one e
+risen-by s (Floor label) n e = no-one e
+risen-by s (Refused number) n e = no-one e
 
 -- ---- the messages
 -- a message that a step has sent

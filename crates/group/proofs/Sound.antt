@@ -4,7 +4,7 @@ use native.Mathlib.Omega.{arith}
 use mathlib.Core.Path.{_≡_, refl, sym, ap, subst, _∙_}
 use mathlib.Core.Bool.{Bool, true, true≢false}
 use mathlib.Core.List.{List, List·Memᴰ, List·Memᴰ·not-nil}
-use mathlib.Core.Logic.{_⊎_, inl, inr, ⊎-elim}
+use mathlib.Core.Logic.{inl, inr, ⊎-elim}
 use mathlib.Core.Option.{Option, none, some}
 use lib.Bits.{bitAnd}
 use lib.ListN.{getD, replicate}
@@ -16,9 +16,7 @@ use Rattle.units.specs.Mask.{inMask}
 use Rattle.units.proofs.Every.{and-right}
 use Rattle.units.proofs.Masks.{no-run}
 use Rattle.vote.specs.declared.digest.Digest.{Digest}
-use Rattle.vote.specs.declared.judge.Poll.the-variants.{Won}
 use Rattle.vote.specs.declared.votes.Ballot.the-variants.{Cast}
-use Rattle.vote.specs.Decision.{winning}
 use Rattle.filter.specs.Compute.{setPoints}
 use Rattle.message.specs.declared.head.Head.{Head}
 use Rattle.message.specs.declared.head.Head.the-variants.{Reading, Reply, Update, Vote, Setpoints}
@@ -46,10 +44,10 @@ use Rattle.controller_laws.proofs.Masks.{in-and}
 use Rattle.controller_laws.proofs.Outcomes.{sent-by, sent-head, state-by}
 use Rattle.group.specs.World.{World, hand, store, crash, withUp, rising, answered, handed}
 use Rattle.group.specs.Premises.{Meters, Released, Telling, Enough, here, next, Run}
-use Rattle.group.specs.Demand.{released, Issued, Canon, at-start, of-issued, Right}
+use Rattle.group.specs.Demand.{Issued, Canon, at-start, of-issued, Right, WonBy}
 use Rattle.group.proofs.Computing.{chosen-state, issued-state, issued-targets}
 use Rattle.group.proofs.Later.{after-keeps}
-use Rattle.group.proofs.Sent.{no-controller, same-controller, put-cases, risen-by, Fresh, new-or-old, still-sent, now-sent}
+use Rattle.group.proofs.Sent.{no-one, same-one, put-cases, risen-by, Fresh, new-or-old, still-sent, now-sent}
 use Rattle.group.proofs.Votes.{decided-small, decided-wins}
 
 module _ (s : Numbers) (meters : Meters) (sent : List Message) (lines : (x : Message) → List·Memᴰ x sent → messageFits (s .group) x ≡ true)
@@ -113,7 +111,7 @@ module _ (s : Numbers) (meters : Meters) (sent : List Message) (lines : (x : Mes
       small = decided-small (votesWith s c (t .seat) (t .digest)) d (t .chose)
 
       -- the chosen digest is the winner
-      settled-wins : winning (released s sent (c .label)) ≡ Won d
+      settled-wins : WonBy s sent (c .label) d
       settled-wins =
           decided-wins s sent lines unique (c .label) (seated (c .votes) (t .seat) (t .digest)) d
           (λ j e q. subst (λ (k : Controller). ballotAt k j ≡ Cast e → Released sent j (k .label) e) (t .next) (votes-on j e) q) (t .chose)
@@ -245,7 +243,7 @@ module _ (s : Numbers) (meters : Meters) (sent : List Message) (lines : (x : Mes
     sound-answered =
         record {
           each = λ j n e. elim (put-cases (w .up) i (some (r .next)) j n e) [
-            | inl q ↦ subst Fine (same-controller (q .1)) (fine-on c (o .each i c at) a known votes-out issues-out)
+            | inl q ↦ subst Fine (same-one (q .1)) (fine-on c (o .each i c at) a known votes-out issues-out)
             | inr q ↦ o .each j n (q .1)
           ];
           said = λ x m. ⊎-elim (λ f. says-on c (o .each i c at) a known votes-out issues-out x f) (λ q. o .said x q) (new-or-old s r (w .sent) x m);
@@ -262,7 +260,7 @@ module _ (s : Numbers) (meters : Meters) (sent : List Message) (lines : (x : Mes
 
   -- every run all of whose messages are among `sent`
   pub sound : {w : World} → Run s (Enough meters) w → Within w → Sound w
-  sound here sub = record { each = λ i c e. no-controller e; said = λ x m. absurd (List·Memᴰ·not-nil m) }
+  sound here sub = record { each = λ i c e. no-one e; said = λ x m. absurd (List·Memᴰ·not-nil m) }
   sound (next {v} run (hand i a) p) sub = sound-handed v (sound run (λ x m. sub x (after-keeps s v x m (hand i a)))) i a p (v .up i) refl sub
   sound (next {v} run (store i label) p) sub = let o = sound run sub in record { each = o .each; said = o .said }
-  sound (next {v} run (crash i) p) sub = sound-put v (sound run sub) i none (λ n e. no-controller e)
+  sound (next {v} run (crash i) p) sub = sound-put v (sound run sub) i none (λ n e. no-one e)

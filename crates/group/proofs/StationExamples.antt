@@ -4,9 +4,7 @@ use mathlib.Core.Path.{_≡_, refl, sym, ap, subst, _∙_}
 use mathlib.Core.Bool.{true}
 use mathlib.Core.List.{List}
 use mathlib.Core.Option.{Option, none, some}
-use borrow.Author.Tests.{eq-eqb}
 use Rattle.units.specs.declared.settings.Numbers.{Numbers}
-use Rattle.units.specs.Pick.{pick}
 use Rattle.message.specs.declared.settings.Settings.{Settings}
 use Rattle.message.specs.Settings.{settingsFit}
 use Rattle.controller.specs.declared.state.Controller.{Controller}
@@ -18,14 +16,11 @@ use Rattle.group.specs.Premises.{Meters}
 use Rattle.group.specs.World.{put}
 use Rattle.group.specs.Wire.{Wire, silent, Happening, afterwards, OnLine, OnwardLines}
 use Rattle.group.specs.Wire as Lines
-use Rattle.group.specs.Stations.{Stations, still, hand, store, crash, boot, seat, turned, later, controllerAt, wireIn, Asked, Booted, OnwardStations, here, next}
-use Rattle.group.proofs.Stations.{FineIn, put-same, follows, fallen, spoken-still, turned-wire}
+use Rattle.group.specs.Stations.{Stations, still, hand, store, crash, boot, turned, later, wireIn, Asked, Booted, OnwardStations, here, next}
+use Rattle.group.proofs.Sent.{put-there, put-same}
+use Rattle.group.proofs.Stations.{FineIn, follows, fallen, boot-wire, spoken-still, turned-wire}
 
 -- ---- a run over lines, by stations
-seat-there : (up : ℕ → Option Core) (i : ℕ) (x : Option Core) → seat up i x i ≡ x
-unfolding seat pick
-seat-there up i x = rw (eq-eqb i i refl)
-
 crash-none : (s : Numbers) (w : Wire) (i : ℕ) → w .up i ≡ none → afterwards s w (Lines.crash i) ≡ w
 crash-none s w i e = λ k.
     record { up = λ j. (ap (λ (x : Option Controller). put (w .up) i x j) (sym e) ∙ put-same (w .up) i j) k; sent = w .sent; stored = w .stored; confirmed = w .confirmed }
@@ -73,12 +68,12 @@ module _ (t : Settings) (fit : settingsFit t ≡ true) (meters : Meters) where
       record {
         stations = later w (boot i (booting .lines));
         run = next (b .run) (boot i (booting .lines)) booted;
-        wire = sym (fallen s meters w i (some fresh) (ap (controllerAt fresh) (booted .waits))) ∙ crash-none s (wireIn s w) i (rw u) ∙ b .wire;
+        wire = sym (boot-wire s meters w i (booting .lines) booted) ∙ crash-none s (wireIn s w) i (rw u) ∙ b .wire;
       }
 
   handed-on : {x : Wire} (b : Stood x) (i : ℕ) (line : List ℕ) (y : Option Core) → b .stations .up i ≡ y → OnLine s meters x (Lines.hand i line) → Stood (afterwards s x (Lines.hand i line))
   handed-on b i line (some c) u k = taken-in b i line c u k
-  handed-on b i line none u k = taken-in (risen b i u) i line fresh (seat-there (b .stations .up) i (some fresh)) k
+  handed-on b i line none u k = taken-in (risen b i u) i line fresh (put-there (b .stations .up) i (some fresh)) k
 
   happened : {x : Wire} → Stood x → (e : Happening) → OnLine s meters x e → Stood (afterwards s x e)
   happened b (Lines.hand i line) k = handed-on b i line (b .stations .up i) refl k
@@ -88,7 +83,7 @@ module _ (t : Settings) (fit : settingsFit t ≡ true) (meters : Meters) where
       record {
         stations = later (b .stations) (crash i);
         run = next (b .run) (crash i) tt;
-        wire = sym (fallen s meters (b .stations) i none refl) ∙ ap (λ (y : Wire). afterwards s y (Lines.crash i)) (b .wire);
+        wire = sym (fallen s meters (b .stations) i none (b .stations .sent) refl refl) ∙ ap (λ (y : Wire). afterwards s y (Lines.crash i)) (b .wire);
       }
 
   -- EVERY RUN OVER LINES IS ONE OF STATIONS

@@ -2,12 +2,10 @@
 use Prim.Native.Nat.{ℕ}
 use mathlib.Core.Path.{_≡_, refl, sym, ap, subst, _∙_}
 use mathlib.Core.Bool.{true}
-use mathlib.Core.List.{List, [], _∷_, _++_, append-nil, append-assoc, List·Memᴰ, List·Memᴰ·head, List·Memᴰ·tail, List·Memᴰ·cases-cons, List·Memᴰ·not-nil}
-use mathlib.Core.Logic.{_⊎_, inl, inr}
+use mathlib.Core.List.{List, [], _∷_, _++_}
+use mathlib.Core.Logic.{inl, inr}
 use mathlib.Core.Option.{Option, none, some}
 use lib.Dec.{eqb, ltb}
-use lib.ListN.{getD}
-use borrow.Author.Tests.{eqb-true}
 use Rattle.units.specs.declared.labels.RoundLabel.{RoundLabel}
 use Rattle.units.specs.declared.refusal.Refusal.{Refusal}
 use Rattle.units.specs.declared.refusal.Refusal.the-variants.{Closed}
@@ -17,139 +15,41 @@ use Rattle.units.specs.declared.settings.Group.{Group}
 use Rattle.units.specs.declared.settings.Numbers.{Numbers}
 use Rattle.units.specs.Labels.{floorFits}
 use Rattle.units.specs.Pick.{pick}
-use Rattle.units.specs.Refusal.{numberOf}
 use Rattle.units.specs.Settings.{numbersFit}
 use Rattle.units.proofs.Every.{and-left, and-right}
 use Rattle.message.specs.declared.head.Head.{Head}
-use Rattle.message.specs.declared.head.Head.the-variants.{Reading, Query, Reply, Advert, Update, Vote, Setpoints, Due, CollectingEnds, VotingEnds, Floor, Start, Refused}
+use Rattle.message.specs.declared.head.Head.the-variants.{Start}
 use Rattle.message.specs.declared.value.Message.{Message}
 use Rattle.message.specs.Head.{headFits}
-use Rattle.message.specs.Message.{plain}
 use Rattle.fields.proofs.Cases.{by-test, absurd-by}
-use Rattle.fields.specs.Lines.{linesOf}
-use Rattle.fields.proofs.Lines.{lines-feed, lines-none}
-use Rattle.lines.specs.declared.kind.Found.the-variants.{Known}
-use Rattle.lines.specs.declared.read.Line.{Line}
+use Rattle.lines.specs.declared.settle.Settling.{Settling}
 use Rattle.lines.specs.Reading.{readLine}
-use Rattle.lines.specs.Table.{letterOf, kindOf}
-use Rattle.lines.specs.Values.{kindIs, valuesOf}
-use Rattle.lines.specs.Writing.{lineOf, spellLine, refusalLine}
-use Rattle.lines.proofs.RoundTrip.{line-feed, refusal-is, read-fits}
-use Rattle.lines.proofs.Wire.{taken, textOf, line-accepted}
-use Rattle.plan.specs.declared.planned.Sent.{Sent}
-use Rattle.plan.specs.declared.planned.Sent.the-variants.{Nothing, One}
+use Rattle.lines.proofs.RoundTrip.{read-fits}
 use Rattle.controller.specs.declared.state.Controller.{Controller}
-use Rattle.controller.specs.declared.step.Answer.{Answer}
-use Rattle.controller.specs.Sent.{sentMessage}
 use Rattle.controller.specs.Start.{startOf, started}
-use Rattle.controller.specs.Step.{stepped}
-use Rattle.controller_laws.proofs.Fits.{told}
+use Rattle.controller_laws.proofs.Fits.{told as in-range}
 use Rattle.session.specs.declared.stage.Core.{Core}
 use Rattle.session.specs.declared.stage.Stage.{Stage}
 use Rattle.session.specs.declared.stage.Stage.the-variants.{Settling as AtSettings, Waiting, Running, Ended}
-use Rattle.session.specs.Booting.{led}
+use Rattle.session.specs.Booting.{led, told}
 use Rattle.session.specs.Demand.{saidBy, stepBy}
 use Rattle.session.specs.Reach.{FitsAt, CoreFits}
-use Rattle.session.specs.Turn.{Turn, numbersIn, groupIn, coreStart, runningWith, quiet, refusing, waitsFor, hears, sentText, verdictText, answerText, answered, turnBy, stepping, turn}
+use Rattle.fields.specs.Lines.{linesOf}
+use Rattle.session.specs.Turn.{Turn, numbersIn, groupIn, coreStart, runningWith, quiet, refusing, waitsFor, hears, answered, turnBy, stepping, turn}
 use Rattle.session.proofs.Demand2.{turn-steps}
 use Rattle.session.proofs.Fits.{start-fits, turn-fits}
 use Rattle.session.proofs.Program.{first-start}
-use Rattle.session.proofs.Sent.{sent-back}
 use Rattle.group.specs.World.{Mark, put, confirms, rising}
 use Rattle.group.specs.Premises.{Meters}
-use Rattle.group.specs.Wire.{Wire, silent, spelling, spelledBy, takes, afterwards, OnwardLines, Demand3Lines}
+use Rattle.group.specs.Wire.{Wire, silent, takes, afterwards, OnwardLines, Demand3Lines}
 use Rattle.group.specs.Wire as Lines
-use Rattle.group.specs.Stations.{Stations, still, Doing, hand, store, crash, boot, seat, puts, confirming, turned, later, controllerAt, controllerIn, keptIf, spoken, wireIn, Asked, Booted, OnStation, OnwardStations, here, next, Demand3Stations}
+use Rattle.group.specs.Stations.{Stations, still, Doing, hand, store, crash, boot, puts, confirming, turned, later, controllerAt, controllerIn, spoken, wireIn, Asked, Booted, OnStation, OnwardStations, here, next, Demand3Stations}
+use Rattle.group.proofs.Sent.{put-same}
+use Rattle.group.proofs.Texts.{in-spoken, spoken-x, quiet-sent, spoken-step, waits-way, turn-text, turn-whole, spoken-text, puts-both}
 use Rattle.group.proofs.Wire.{demand3-lines}
 
--- ---- X is never read
-first-letter : (l k : List ℕ) → l ≡ k → getD l 0 0 ≡ getD k 0 0
-first-letter l k e = ap (λ (x : List ℕ). getD x 0 0) e
-
-pub x-refused : (s : Group) (why : Refusal) → readLine s (refusalLine why) .verdict ≡ Taken → ⊥
-unfolding refusalLine lineOf kindOf pick
-x-refused s why e =
-    let a = line-accepted s (refusalLine why) (readLine s (refusalLine why) .message) (whole (readLine s (refusalLine why)) e) in
-    let p : 88 ≡ letterOf (a .kind) = first-letter _ _ (a .spelt) in
-    let q : kindOf 88 ≡ Known (a .kind) = ap kindOf p ∙ a .readable in absurd-by (cc)
-  where
-    whole : (l : Line) → l .verdict ≡ Taken → l ≡ taken (l .message)
-    whole l d = rw (← d)
-
--- ---- the lines of a text
-line-first : (s : Group) (a : Message) (rest : List ℕ) → linesOf (spellLine s a ++ rest) ≡ spellLine s a ∷ linesOf rest
-line-first s a rest =
-    let p = line-feed s a in
-    let text : List ℕ = textOf (kindIs (a .head)) (valuesOf s a) in
-    ap (λ (l : List ℕ). linesOf (l ++ rest)) (p .0) ∙ ap linesOf (append-assoc text (10 ∷ []) rest) ∙ lines-feed text rest (p .1) ∙ ap (λ (l : List ℕ). l ∷ linesOf rest) (sym (p .0))
-
-refusal-first : (s : Group) (why : Refusal) → linesOf (refusalLine why) ≡ refusalLine why ∷ []
-refusal-first s why =
-    let x = plain (Refused (numberOf why)) in
-    ap linesOf (refusal-is s why ∙ sym (append-nil (spellLine s x))) ∙ line-first s x [] ∙ ap (λ (l : List (List ℕ)). spellLine s x ∷ l) lines-none ∙ ap (λ (l : List ℕ). l ∷ []) (sym (refusal-is s why))
-
-module _ (s : Numbers) where
-  kept-none : (v : Verdict) (l : List ℕ) (ls : List (List ℕ)) → (v ≡ Taken → ⊥) → keptIf v l ls ≡ ls
-  kept-none Taken l ls n = absurd (n refl)
-  kept-none (Denied why) l ls n = refl
-
-  kept-first : (v : Verdict) (l : List ℕ) (ls : List (List ℕ)) (x : List ℕ) → v ≡ Taken → x ≡ l → List·Memᴰ x (keptIf v l ls)
-  kept-first Taken l ls x t e = List·Memᴰ·head e
-  kept-first (Denied why) l ls x t e = absurd-by (cc)
-
-  kept-rest : (v : Verdict) (l : List ℕ) (ls : List (List ℕ)) (x : List ℕ) → List·Memᴰ x ls → List·Memᴰ x (keptIf v l ls)
-  kept-rest Taken l ls x m = List·Memᴰ·tail m
-  kept-rest (Denied why) l ls x m = m
-
-  -- a written line that is read is among the spoken
-  in-spoken : (sent : List (List ℕ)) (x : List ℕ) → List·Memᴰ x sent → readLine (s .group) x .verdict ≡ Taken → List·Memᴰ x (spoken s sent)
-  unfolding spoken
-  in-spoken [] x m t = absurd (List·Memᴰ·not-nil m)
-  in-spoken (l ∷ sent) x m t =
-      elim (List·Memᴰ·cases-cons m) [
-        | inl e ↦ kept-first (readLine (s .group) l .verdict) l (spoken s sent) x (ap (λ (y : List ℕ). readLine (s .group) y .verdict) (sym e) ∙ t) e
-        | inr n ↦ kept-rest (readLine (s .group) l .verdict) l (spoken s sent) x (in-spoken sent x n t)
-      ]
-
-  spoken-x : (why : Refusal) (old : List (List ℕ)) → spoken s (puts (linesOf (refusalLine why)) old) ≡ spoken s old
-  unfolding spoken puts
-  spoken-x why old = rw (refusal-first (s .group) why) (kept-none (readLine (s .group) (refusalLine why) .verdict) (refusalLine why) (spoken s old) (x-refused (s .group) why))
-
-  quiet-sent : (old : List (List ℕ)) → spoken s (puts (linesOf []) old) ≡ spoken s old
-  unfolding puts
-  quiet-sent old = rw lines-none
-
-  spoken-verdict : (v : Verdict) (old : List (List ℕ)) → spoken s (puts (linesOf (verdictText v)) old) ≡ spoken s old
-  unfolding verdictText puts
-  spoken-verdict Taken old = rw lines-none
-  spoken-verdict (Denied why) old = spoken-x why old
-
-  puts-sent : (n : Controller) (t : Sent) (rest : List ℕ) (old : List (List ℕ)) → puts (linesOf (sentText s n t ++ rest)) old ≡ puts (linesOf rest) (spelling s n t old)
-  unfolding sentText puts
-  puts-sent n Nothing rest old = refl
-  puts-sent n (One head) rest old = rw (line-first (s .group) (sentMessage s n head head) rest)
-
-  puts-answer : (r : Answer) (old : List (List ℕ)) → puts (linesOf (answerText s r)) old ≡ puts (linesOf (verdictText (r .verdict))) (spelledBy s r old)
-  unfolding answerText
-  puts-answer r old = puts-sent (r .next) (r .first) _ old ∙ puts-sent (r .next) (r .second) _ (spelling s (r .next) (r .first) old)
-
-  spoken-spelled : (n : Controller) (t : Sent) (old : List (List ℕ)) → ((head : Head) → t ≡ One head → readLine (s .group) (spellLine (s .group) (sentMessage s n head head)) .verdict ≡ Taken)
-      → spoken s (spelling s n t old) ≡ spelling s n t (spoken s old)
-  unfolding spoken
-  spoken-spelled n Nothing old f = refl
-  spoken-spelled n (One head) old f = rw (f head refl)
-
-  -- what a step's lines are on the wire
-  spoken-step : (c : Controller) (a : Message) (old : List (List ℕ)) → spoken s (puts (linesOf (answerText s (stepped s c a))) old) ≡ spelledBy s (stepped s c a) (spoken s old)
-  spoken-step c a old =
-      let r = stepped s c a in
-      ap (spoken s) (puts-answer r old)
-      ∙ spoken-verdict (r .verdict) (spelledBy s r old)
-      ∙ spoken-spelled (r .next) (r .second) (spelling s (r .next) (r .first) old) (λ head e. ap (λ (l : Line). l .verdict) (sent-back s c a head (inr e)))
-      ∙ ap (spelling s (r .next) (r .second)) (spoken-spelled (r .next) (r .first) old (λ head e. ap (λ (l : Line). l .verdict) (sent-back s c a head (inl e))))
-
 -- ---- the turns of a program past its settings
-abbrev Past : Stage → Type 0
+abbrev pub Past : Stage → Type 0
 Past AtSettings = ⊥
 Past Waiting = Unit {0}
 Past Running = Unit {0}
@@ -164,22 +64,6 @@ data Way (c : Core) (line : List ℕ) : Type 0 where
   rises : (own : ℕ) (floor : RoundLabel) → c .stage ≡ Waiting → readLine (groupIn c) line .verdict ≡ Taken → saidBy c line .head ≡ Start own floor → Way c line
   steps : c .stage ≡ Running → readLine (groupIn c) line .verdict ≡ Taken → Way c line
 
-waits-way : (c : Core) (h : Head) → ((waitsFor c h ≡ refusing c Closed) × (rising (numbersIn c) h ≡ none)) ⊎ ((own : ℕ) × (floor : RoundLabel) × (h ≡ Start own floor))
-unfolding waitsFor
-waits-way c (Reading label run raw) = inl (refl, refl)
-waits-way c (Query sender label mask) = inl (refl, refl)
-waits-way c (Reply sender label mask) = inl (refl, refl)
-waits-way c (Advert sender state) = inl (refl, refl)
-waits-way c (Update sender state) = inl (refl, refl)
-waits-way c (Vote sender label digest) = inl (refl, refl)
-waits-way c (Setpoints sender label digest) = inl (refl, refl)
-waits-way c (Due label) = inl (refl, refl)
-waits-way c (CollectingEnds label) = inl (refl, refl)
-waits-way c (VotingEnds label) = inl (refl, refl)
-waits-way c (Floor label) = inl (refl, refl)
-waits-way c (Start own floor) = inr (own, floor, refl)
-waits-way c (Refused number) = inl (refl, refl)
-
 wait-turn : (c : Core) (line : List ℕ) (stage : Stage) (v : Verdict) → stage ≡ Waiting → readLine (groupIn c) line .verdict ≡ v
     → turnBy stepping c line stage ≡ hears (λ a. waitsFor c (a .head)) c (saidBy c line) v
 unfolding turnBy
@@ -192,10 +76,6 @@ run-turn c line stage v e ev = rw e (ap (hears (stepping c) c (saidBy c line)) e
 
 unsure : (i : ℕ) (h : Head) (v : Verdict) (stage : Stage) → stage ≡ Waiting → confirming i h v stage ≡ []
 unsure i h v stage e = rw e
-
-pub put-same : (f : ℕ → Option Controller) (i j : ℕ) → put f i (f i) j ≡ f j
-unfolding put pick
-put-same f i j = by-test (eqb j i) (λ t. rw t (ap f (sym (eqb-true j i t)))) (λ t. rw t)
 
 hears-as : (s : Numbers) (w : Wire) (i : ℕ) (a : Message) (v : Verdict) (u : Option Controller) → v ≡ Taken → w .up i ≡ u → Lines.hears s w i a v ≡ takes s w i a u
 hears-as s w i a v u e q = rw (e, q)
@@ -238,32 +118,67 @@ FineIn s (some c) = Fine s c
 abbrev pub Sound : Numbers → Stations → Type 0
 Sound s w = (i : ℕ) → FineIn s (w .up i)
 
-next-past : (c : Core) (line : List ℕ) → Past (c .stage) → Way c line → (numbersIn (turn c line .next) ≡ numbersIn c) × Past (turn c line .next .stage)
-next-past c line p (refuses why e q r) = subst (λ (t : Turn). (numbersIn (t .next) ≡ numbersIn c) × Past (t .next .stage)) (sym e) (refl, p)
-next-past c line p (rises own floor s v e) = subst (λ (t : Turn). (numbersIn (t .next) ≡ numbersIn c) × Past (t .next .stage)) (sym (first-start c line own floor s v e)) (refl, tt)
-next-past c line p (steps s v) = subst (λ (t : Turn). (numbersIn (t .next) ≡ numbersIn c) × Past (t .next .stage)) (sym (turn-steps c line s v)) (refl, tt)
-
 way-of : (c : Core) (line : List ℕ) → Past (c .stage) → Way c line
 way-of c line p = way c line (c .stage) refl p (readLine (groupIn c) line .verdict) refl
+
+-- past its settings a program keeps them
+abbrev Kept : Core → Turn → Type 0
+Kept c t = (t .next .settling ≡ c .settling) × Past (t .next .stage)
+
+next-past : (c : Core) (line : List ℕ) → Past (c .stage) → Way c line → Kept c (turn c line)
+next-past c line p (refuses why e q r) = subst (Kept c) (sym e) (refl, p)
+next-past c line p (rises own floor s v e) = subst (Kept c) (sym (first-start c line own floor s v e)) (refl, tt)
+next-past c line p (steps s v) = subst (Kept c) (sym (turn-steps c line s v)) (refl, tt)
+
+pub led-past : (c : Core) (ls : List (List ℕ)) → Past (c .stage) → (led c ls .settling ≡ c .settling) × Past (led c ls .stage)
+unfolding led
+led-past c [] p = (refl, p)
+led-past c (l ∷ ls) p =
+    let n = next-past c l p (way-of c l p) in
+    let r = led-past (turn c l .next) ls (n .1) in (r .0 ∙ n .0, r .1)
+
+-- a program that runs a controller goes on with one
+runs-on : (c : Core) (line : List ℕ) → c .stage ≡ Running → Way c line → turn c line .next .stage ≡ Running
+runs-on c line e (refuses why q r t) = ap (λ (t : Turn). t .next .stage) q ∙ e
+runs-on c line e (rises own floor s v q) = let z : Running ≡ Waiting = sym e ∙ s in absurd-by (cc)
+runs-on c line e (steps s v) = ap (λ (t : Turn). t .next .stage) (turn-steps c line s v)
+
+led-runs : (c : Core) (ls : List (List ℕ)) → c .stage ≡ Running → led c ls .stage ≡ Running
+unfolding led
+led-runs c [] e = e
+led-runs c (l ∷ ls) e = led-runs (turn c l .next) ls (runs-on c l e (way-of c l (subst Past (sym e) tt)))
+
+-- what is written on the way to the first B is read by nobody
+boot-spoken : (s : Numbers) (c : Core) (ls old : List (List ℕ)) → led c ls .stage ≡ Waiting → spoken s (puts (linesOf (told c ls)) old) ≡ spoken s old
+unfolding led told
+boot-spoken s c [] old e = quiet-sent s old
+boot-spoken s c (l ∷ ls) old e =
+    let n : c .stage ≡ Running → ⊥ = λ r. let z : Waiting ≡ Running = sym e ∙ led-runs c (l ∷ ls) r in absurd-by (cc) in
+    let u = turn c l .text in
+    let r = told (turn c l .next) ls in
+    ap (λ (x : List (List ℕ)). spoken s (puts x old)) (turn-whole c l r)
+    ∙ ap (spoken s) (puts-both (linesOf u) (linesOf r) old)
+    ∙ boot-spoken s (turn c l .next) ls (puts (linesOf u) old) e
+    ∙ spoken-text c s u old n (turn-text c l)
 
 fine-next : (s : Numbers) (c : Core) (line : List ℕ) → Fine s c → Fine s (turn c line .next)
 fine-next s c line f =
     let n = next-past c line (f .past) (way-of c line (f .past)) in
-    record { settings = n .0 ∙ f .settings; fits = turn-fits c line (f .fits); past = n .1 }
+    record { settings = ap (λ (x : Settling). x .settings .numbers) (n .0) ∙ f .settings; fits = turn-fits c line (f .fits); past = n .1 }
 
 led-fits : (c : Core) (ls : List (List ℕ)) → CoreFits c → CoreFits (led c ls)
 unfolding led
 led-fits c [] f = f
 led-fits c (l ∷ ls) f = led-fits (turn c l .next) ls (turn-fits c l f)
 
-seat-fine : (s : Numbers) (up : ℕ → Option Core) (i : ℕ) (x : Option Core) → ((j : ℕ) → FineIn s (up j)) → FineIn s x → (j : ℕ) → FineIn s (seat up i x j)
-unfolding seat pick
-seat-fine s up i x f g j = by-test (eqb j i) (λ t. rw t g) (λ t. rw t (f j))
+put-fine : (s : Numbers) (up : ℕ → Option Core) (i : ℕ) (x : Option Core) → ((j : ℕ) → FineIn s (up j)) → FineIn s x → (j : ℕ) → FineIn s (put up i x j)
+unfolding put pick
+put-fine s up i x f g j = by-test (eqb j i) (λ t. rw t g) (λ t. rw t (f j))
 
 -- ---- a turn is what happens on the wire
-seat-put : (up : ℕ → Option Core) (i : ℕ) (x : Option Core) (j : ℕ) → controllerIn (seat up i x j) ≡ put (λ k. controllerIn (up k)) i (controllerIn x) j
-unfolding seat put pick
-seat-put up i x j = by-test (eqb j i) (λ t. rw t) (λ t. rw t)
+put-in : (up : ℕ → Option Core) (i : ℕ) (x : Option Core) (j : ℕ) → controllerIn (put up i x j) ≡ put (λ k. controllerIn (up k)) i (controllerIn x) j
+unfolding put pick
+put-in up i x j = by-test (eqb j i) (λ t. rw t) (λ t. rw t)
 
 start-rises : (s : Numbers) (own : ℕ) (floor : RoundLabel) → numbersFit s ≡ true → ltb own (s .group .g) ≡ true → floorFits floor ≡ true → rising s (Start own floor) ≡ some (startOf s own floor)
 unfolding started pick
@@ -280,14 +195,14 @@ module _ (w : Stations) (i : ℕ) (line : List ℕ) (c : Core) (u : w .up i ≡ 
   s = numbersIn c
 
   abbrev made : Turn → List Mark → Stations
-  made t sure = record { up = seat (w .up) i (some (t .next)); sent = puts (linesOf (t .text)) (w .sent); stored = w .stored; confirmed = sure ++ w .confirmed }
+  made t sure = record { up = put (w .up) i (some (t .next)); sent = puts (linesOf (t .text)) (w .sent); stored = w .stored; confirmed = sure ++ w .confirmed }
 
   -- the wire of the stations after a turn
   wire-made : (t : Turn) (sure : List Mark) (d : Option Controller) (out : List (List ℕ)) → controllerIn (some (t .next)) ≡ d → spoken s (puts (linesOf (t .text)) (w .sent)) ≡ out
       → _≡_ {A = Wire} (wireIn s (made t sure)) (record { up = put (wireIn s w .up) i d; sent = out; stored = w .stored; confirmed = sure ++ w .confirmed })
   wire-made t sure d out p q = λ k.
       record {
-        up = λ j. (seat-put (w .up) i (some (t .next)) j ∙ ap (λ (x : Option Controller). put (wireIn s w .up) i x j) p) k;
+        up = λ j. (put-in (w .up) i (some (t .next)) j ∙ ap (λ (x : Option Controller). put (wireIn s w .up) i x j) p) k;
         sent = q k;
         stored = w .stored;
         confirmed = sure ++ w .confirmed;
@@ -301,7 +216,7 @@ module _ (w : Stations) (i : ℕ) (line : List ℕ) (c : Core) (u : w .up i ≡ 
   wire-turn : CoreFits c → Way c line → afterwards s (wireIn s w) (Lines.hand i line) ≡ wireIn s (made (turn c line) (sureOf i c line))
   wire-turn f (refuses why e q r) = r (wireIn s w) i (ap controllerIn u) ∙ no-step why ∙ sym (λ t. wireIn s (made (e t) (q i t)))
   wire-turn f (rises own floor st v e) =
-      let m = told (groupIn c) (saidBy c line) (read-fits (groupIn c) line v) .head in
+      let m = in-range (groupIn c) (saidBy c line) (read-fits (groupIn c) line v) .head in
       let h = start-head (groupIn c) (saidBy c line .head) own floor e m in
       let g : numbersFit s ≡ true = subst (λ (x : Stage). FitsAt c x) st f in
       let r : rising s (saidBy c line .head) ≡ some (startOf s own floor) = ap (rising s) e ∙ start-rises s own floor g (h .0) (h .1) in
@@ -331,16 +246,22 @@ module _ (s : Numbers) (meters : Meters) where
   handed : (w : Stations) → Sound s w → (i : ℕ) (line : List ℕ) (x : Option Core) → w .up i ≡ x → FineIn s x → Asked s meters w i line x → Follow w (turned w i line x)
   handed w g i line none u f k = (Lines.here, g)
   handed w g i line (some c) u f k =
-      (subst (OnwardLines s meters (wireIn s w)) (turned-wire w i line c u f) (Lines.next Lines.here (Lines.hand i line) k), seat-fine s (w .up) i (some (turn c line .next)) g (fine-next s c line f))
+      (subst (OnwardLines s meters (wireIn s w)) (turned-wire w i line c u f) (Lines.next Lines.here (Lines.hand i line) k), put-fine s (w .up) i (some (turn c line .next)) g (fine-next s c line f))
 
-  pub fallen : (w : Stations) (i : ℕ) (x : Option Core) → controllerIn x ≡ none → afterwards s (wireIn s w) (Lines.crash i) ≡ wireIn s (record { up = seat (w .up) i x; sent = w .sent; stored = w .stored; confirmed = w .confirmed })
-  fallen w i x e = λ k.
+  -- a crash, or a boot: no controller stands there, and nothing that is read was written
+  pub fallen : (w : Stations) (i : ℕ) (x : Option Core) (sent : List (List ℕ)) → controllerIn x ≡ none → spoken s sent ≡ spoken s (w .sent)
+      → _≡_ {A = Wire} (afterwards s (wireIn s w) (Lines.crash i)) (wireIn s (record { up = put (w .up) i x; sent = sent; stored = w .stored; confirmed = w .confirmed }))
+  fallen w i x sent e q = λ k.
       record {
-        up = λ j. sym (seat-put (w .up) i x j ∙ ap (λ (y : Option Controller). put (wireIn s w .up) i y j) e) k;
-        sent = spoken s (w .sent);
+        up = λ j. sym (put-in (w .up) i x j ∙ ap (λ (y : Option Controller). put (wireIn s w .up) i y j) e) k;
+        sent = sym q k;
         stored = w .stored;
         confirmed = w .confirmed;
       }
+
+  pub boot-wire : (w : Stations) (i : ℕ) (lines : List (List ℕ)) → Booted s (led coreStart lines) → afterwards s (wireIn s w) (Lines.crash i) ≡ wireIn s (later w (boot i lines))
+  boot-wire w i lines b =
+      fallen w i (some (led coreStart lines)) (puts (linesOf (told coreStart lines)) (w .sent)) (ap (controllerAt (led coreStart lines)) (b .waits)) (boot-spoken s coreStart lines (w .sent) (b .waits))
 
   booted : (lines : List (List ℕ)) → Booted s (led coreStart lines) → Fine s (led coreStart lines)
   booted lines b = record { settings = b .settings; fits = led-fits coreStart lines start-fits; past = subst Past (sym (b .waits)) tt }
@@ -348,10 +269,10 @@ module _ (s : Numbers) (meters : Meters) where
   happens : (w : Stations) → Sound s w → (e : Doing) → OnStation s meters w e → Follow w (later w e)
   happens w g (hand i line) k = handed w g i line (w .up i) refl (g i) k
   happens w g (store i label) k = (Lines.next Lines.here (Lines.store i label) tt, g)
-  happens w g (crash i) k = (subst (OnwardLines s meters (wireIn s w)) (fallen w i none refl) (Lines.next Lines.here (Lines.crash i) tt), seat-fine s (w .up) i none g tt)
+  happens w g (crash i) k = (subst (OnwardLines s meters (wireIn s w)) (fallen w i none (w .sent) refl refl) (Lines.next Lines.here (Lines.crash i) tt), put-fine s (w .up) i none g tt)
   happens w g (boot i lines) b = (
-    subst (OnwardLines s meters (wireIn s w)) (fallen w i (some (led coreStart lines)) (ap (controllerAt (led coreStart lines)) (b .waits))) (Lines.next Lines.here (Lines.crash i) tt),
-    seat-fine s (w .up) i (some (led coreStart lines)) g (booted lines b),
+    subst (OnwardLines s meters (wireIn s w)) (boot-wire w i lines b) (Lines.next Lines.here (Lines.crash i) tt),
+    put-fine s (w .up) i (some (led coreStart lines)) g (booted lines b),
   )
 
   pub follows : {w v : Stations} → Sound s w → OnwardStations s meters w v → Follow w v
@@ -377,4 +298,5 @@ module _ (s : Numbers) (meters : Meters) where
       record {
         right = λ x m t. d .right x (in-spoken s (w .sent) x m t);
         same = λ x y m n t u. d .same x y (in-spoken s (w .sent) x m t) (in-spoken s (v .sent) y n u);
+        one = λ x y m n t u. d .one x y (in-spoken s (v .sent) x m t) (in-spoken s (v .sent) y n u);
       }

@@ -16,9 +16,8 @@ use Rattle.units.specs.Settings.{groupFits}
 use Rattle.units.proofs.Every.{and-left, and-right}
 use Rattle.vote.specs.declared.digest.Digest.{Digest}
 use Rattle.vote.specs.declared.judge.Poll.the-variants.{Won}
-use Rattle.vote.specs.Decision.{winning}
-use Rattle.vote.specs.Vote.{Names, seatsFit, votesFit}
-use Rattle.vote.proofs.Answer.{winning-exact}
+use Rattle.vote.specs.Vote.{seatsFit, votesFit}
+use Rattle.vote.proofs.Answer.{one-winner}
 use Rattle.filter.specs.declared.compute.Computed.{Computed}
 use Rattle.filter.specs.Compute.{computed}
 use Rattle.message.specs.declared.head.Head.the-variants.{Setpoints}
@@ -26,7 +25,7 @@ use Rattle.message.specs.declared.value.Message.{Message}
 use Rattle.controller_laws.proofs.Ways.{same-round}
 use Rattle.group.specs.World.{World}
 use Rattle.group.specs.Premises.{Meters, Kept, Enough, Onward, Run}
-use Rattle.group.specs.Demand.{released, readingsOf, Canon, at-start, of-issued, Right, Demand3}
+use Rattle.group.specs.Demand.{released, WonBy, readingsOf, Canon, at-start, of-issued, Right, Demand3}
 use Rattle.group.proofs.Later.{continued, stays-sent}
 use Rattle.group.proofs.Once.{once}
 use Rattle.group.proofs.Sound.{Sound, sound}
@@ -34,23 +33,19 @@ use Rattle.group.proofs.Weaker.{weaker, weaker-on}
 
 -- ---- the state of a label is one
 module _ (s : Numbers) (meters : Meters) (sent : List Message) where
-  abbrev Wins : RoundLabel → Digest → Type 0
-  Wins label d = winning (released s sent label) ≡ Won d
-
   same-won : {d e : Digest} → Won d ≡ Won e → d ≡ e
   same-won q = cc
 
-  -- there is one winner
-  one-winner : (l k : RoundLabel) (d e : Digest) → l ≡ k → Wins l d → Wins k e → d ≡ e
-  one-winner l k d e p a b = same-won (sym a ∙ ap (λ (x : RoundLabel). winning (released s sent x)) p ∙ b)
+  -- equal labels have one winner
+  same-winner : (l k : RoundLabel) (d e : Digest) → l ≡ k → WonBy s sent l d → WonBy s sent k e → d ≡ e
+  same-winner l k d e p a b = same-won (one-winner (released s sent k) (Won d) (Won e) (subst (λ (x : RoundLabel). WonBy s sent x d) p a) b)
 
   -- a label that has a winner is not 0
-  won-round : (label : RoundLabel) (d : Digest) → Wins label d → 1 ≤ label .0
+  won-round : (label : RoundLabel) (d : Digest) → WonBy s sent label d → 1 ≤ label .0
   unfolding votesFit released
   won-round label d e =
       let v = released s sent label in
-      let q = subst (Names v) e (winning-exact v) in
-      let f = and-left (groupFits (v .group) && roundFits (v .label)) (seatsFit (v .group) (v .label) (v .seats)) (q .0) in
+      let f = and-left (groupFits (v .group) && roundFits (v .label)) (seatsFit (v .group) (v .label) (v .seats)) (e .0) in
       leb-true 1 (label .0) (and-left (leb 1 (label .0)) _ (and-right (groupFits (v .group)) (roundFits (v .label)) f))
 
   -- what computing gives, from equal inputs
@@ -64,7 +59,7 @@ module _ (s : Numbers) (meters : Meters) (sent : List Message) where
   canon-same p (of-issued label d base i w c) at-start = let z : label .0 ≡ 0 = ap (λ (x : StateLabel). x .0) p in absurd (omega (arith, won-round label d w))
   canon-same p (of-issued label d base i w c) (of-issued label₂ e base₂ i₂ w₂ c₂) =
       let l = same-round label label₂ (ap (λ (x : StateLabel). x .0) p) in
-      let q = one-winner label label₂ d e l w w₂ in
+      let q = same-winner label label₂ d e l w w₂ in
       ap (λ (x : Computed). x .state) (computed-as label label₂ d e base base₂ l q (canon-same (ap (λ (x : Digest). x .state) q) c c₂))
 
   -- "that state itself fixed by the run"
@@ -74,7 +69,7 @@ module _ (s : Numbers) (meters : Meters) (sent : List Message) where
   -- two S of one label that are right agree
   pub right-one : (label : RoundLabel) (d e : Digest) (t u : List Float) → Right s meters sent label d t → Right s meters sent label e u → (d ≡ e) × (t ≡ u)
   right-one label d e t u a b =
-      let q = one-winner label label d e refl (a .wins) (b .wins) in
+      let q = same-winner label label d e refl (a .wins) (b .wins) in
       (q, a .given ∙ ap (λ (x : Computed). x .targets) (computed-as label label d e (a .base) (b .base) refl q (canon-same (ap (λ (x : Digest). x .state) q) (a .named) (b .named))) ∙ sym (b .given))
 
 module _ (s : Numbers) (meters : Meters) where
@@ -94,6 +89,7 @@ module _ (s : Numbers) (meters : Meters) where
         right = λ x m i label d e. every-right all x (stays-sent on x m) i label d e;
         same = λ x y m n i j label d e p q.
             right-one s meters (v .sent) label d e (x .targets) (y .targets) (every-right all x (stays-sent on x m) i label d p) (every-right all y n j label e q);
+        one = once s meters all .unique;
       }
 
   -- DEMAND 3: for every run that keeps the premises, to w, and however it goes on, to v

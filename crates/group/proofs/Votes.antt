@@ -19,16 +19,15 @@ use Rattle.units.specs.Within.{within}
 use Rattle.units.proofs.Every.{and-left, and-right, and-both}
 use Rattle.vote.specs.declared.digest.Digest.{Digest}
 use Rattle.vote.specs.declared.judge.Decision.the-variants.{Decided}
-use Rattle.vote.specs.declared.judge.Poll.the-variants.{Won}
 use Rattle.vote.specs.declared.votes.Ballot.{Ballot}
 use Rattle.vote.specs.declared.votes.Ballot.the-variants.{Missing, Cast}
 use Rattle.vote.specs.declared.votes.Seat.{Seat}
 use Rattle.vote.specs.declared.votes.Votes.{Votes}
-use Rattle.vote.specs.Decision.{decision, winning}
+use Rattle.vote.specs.Decision.{decision}
 use Rattle.vote.specs.Digest.{legal}
 use Rattle.vote.specs.Vote.{Completes, Answers, ballotOf, ballots, seatFits, seatsFit, votesFit}
 use Rattle.vote.specs.Vote.Completes.{done, kept, filled}
-use Rattle.vote.proofs.Answer.{decision-exact, winning-exact, one-winner}
+use Rattle.vote.proofs.Answer.{decision-exact}
 use Rattle.filter.proofs.Tab.{length-tab, getD-tab}
 use Rattle.message.specs.declared.head.Head.{Head}
 use Rattle.message.specs.declared.head.Head.the-variants.{Reading, Query, Reply, Advert, Update, Vote, Setpoints, Due, CollectingEnds, VotingEnds, Floor, Start, Refused}
@@ -41,7 +40,7 @@ use Rattle.controller_laws.proofs.Valid.{seats-length, seats-made}
 use Rattle.controller_laws.proofs.Ways.{on-pick, same-round}
 use Rattle.controller_laws.proofs.Changes.{not-missing, same-digest}
 use Rattle.group.specs.Premises.{Released}
-use Rattle.group.specs.Demand.{voteIf, voteOf, released}
+use Rattle.group.specs.Demand.{voteIf, voteOf, released, WonBy}
 
 -- ---- a D in range
 -- its sender is of the group, and its digest is legal
@@ -200,7 +199,7 @@ module _ (s : Numbers) (sent : List Message) (lines : (x : Message) → List·Me
 
   -- DECIDED, SO THE WINNER: what is decided among votes that were released is the winner of all the votes released for the label
   pub decided-wins : (label : RoundLabel) (held : List Seat) (d : Digest) → ((j : ℕ) (e : Digest) → getD held j nobody .ballot ≡ Cast e → Released sent j label e)
-      → decision (record { group = s .group; label = label; seats = held }) ≡ Decided d → winning (released s sent label) ≡ Won d
+      → decision (record { group = s .group; label = label; seats = held }) ≡ Decided d → WonBy s sent label d
   unfolding votesFit released
   decided-wins label held d from e =
       let v : Votes = record { group = s .group; label = label; seats = held } in
@@ -209,5 +208,4 @@ module _ (s : Numbers) (sent : List Message) (lines : (x : Message) → List·Me
       let l = seats-length (s .group) label held (and-right (groupFits (s .group) && roundFits label) (seatsFit (s .group) label held) (q .0)) in
       let c = completes (s .group .m) label (s .group .g) held (seats label) (l ∙ sym (seats-are label)) (λ j k h. in-seat label (and-left (groupFits (s .group)) _ f) j k (from j k h))
       (λ j k h. vote-fits (s .group) j label k (released-fits j label k (seated-released label j k h)) .2) in
-      one-winner (released s sent label) (winning (released s sent label)) (Won d) (winning-exact (released s sent label))
       (released-in-range label (and-left (groupFits (s .group)) _ f) (and-right (groupFits (s .group)) _ f), q .1 (ballots (released s sent label)) c)

@@ -10,7 +10,7 @@ use Rattle.units.specs.declared.refusal.Verdict.the-variants.{Taken, Refused as
 use Rattle.units.specs.declared.settings.Numbers.{Numbers}
 use Rattle.vote.specs.declared.digest.Digest.{Digest}
 use Rattle.message.specs.declared.head.Head.{Head}
-use Rattle.message.specs.declared.head.Head.the-variants.{Setpoints, Refused}
+use Rattle.message.specs.declared.head.Head.the-variants.{Vote, Setpoints, Refused}
 use Rattle.message.specs.declared.value.Message.{Message}
 use Rattle.message.specs.Message.{plain}
 use Rattle.lines.specs.declared.read.Line.{Line}
@@ -30,7 +30,7 @@ use Rattle.controller_laws.specs.Outcomes.SentBy.{query, reply, advert, update,
 use Rattle.controller_laws.proofs.Outcomes.{sent-by}
 use Rattle.group.specs.World.{World, empty, sending, sentBy, handed, after}
 use Rattle.group.specs.World as Messages
-use Rattle.group.specs.Premises.{Meters, Kept, Onward, Run}
+use Rattle.group.specs.Premises.{Meters, Released, Kept, Onward, Run}
 use Rattle.group.specs.Premises as Runs
 use Rattle.group.specs.Demand.{Right}
 use Rattle.group.specs.Wire.{Wire, silent, Happening, hand, store, crash, spelling, spelledBy, takes, hears, afterwards, KeptLine, OnLine, OnwardLines, here, next, readAs, readAll, from, Demand3Lines}
@@ -158,8 +158,16 @@ module _ (s : Numbers) (meters : Meters) where
         let h : g .0 ≡ readAs s y = sym (ap (λ (l : List ℕ). readAs s l) (sym (g .2)) ∙ ap (λ (l : Line). l .message) (read-back all (g .0) (g .1))) in
         sym (g .2) ∙ ap (spellLine (s .group)) (h ∙ same-but (readAs s x) (readAs s y) i j label d e (sent-bare run (readAs s x) a i label d p) (sent-bare all (readAs s y) b j label e q) (z .0) (z .1))
 
+    released-as : (x : List ℕ) → List·Memᴰ x (wireOf v .sent) → (i : ℕ) (label : RoundLabel) (d : Digest) → readAs s x .head ≡ Vote i label d → Released (v .sent) i label d
+    released-as x m i label d e = record { line = readAs s x; among = genuine all x m; said = e }
+
     lines-demand : Demand3Lines s meters (wireOf w) (wireOf v)
-    lines-demand = record { right = lines-right; same = lines-same }
+    lines-demand =
+        record {
+          right = lines-right;
+          same = lines-same;
+          one = λ x y m n i label d e p q. demand3 s meters run on .one i label d e (released-as x m i label d p) (released-as y n i label e q);
+        }
 
   -- DEMAND 3 OF THE BYTES: every run over lines that keeps the premises, to w, and however it goes on, to v
   pub demand3-lines : {w v : Wire} → OnwardLines s meters silent w → OnwardLines s meters w v → Demand3Lines s meters w v

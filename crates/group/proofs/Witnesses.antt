@@ -1,56 +1,30 @@
--- THE PREMISES CAN BE MET: two runs that the checker computes, event by event, with all that is sent in them. Assumes nothing.
+-- THE PREMISES CAN BE MET: three runs that the checker computes, event by event, with all that is sent in them. Assumes nothing.
 use mathlib.Core.Path.{_≡_, refl}
 use mathlib.Core.Bool.{true}
-use lib.Count.{ones}
-use lib.Ieee.{lt, le, eq, add, sub, mul, div, ofInt, ofBits, toBits, fits}
 use Rattle.units.specs.Every.{every}
-use Rattle.units.specs.Pick.{pick}
 use Rattle.units.specs.Settings.{groupFits, runsFit, numbersFit}
-use Rattle.floats.specs.Bits.{bitsOf, floatOf, sameFloat}
-use Rattle.floats.specs.Ranges.{estimateFits, sameEstimate, stateFits, targetsFit, sameState}
-use Rattle.vote.specs.Digest.{legal, same, rank, unrank, full, least}
-use Rattle.vote.specs.Vote.{seatFits, seatsFit, votesFit}
-use Rattle.vote.specs.Decision.{tallyOf, strengthOf, largest, otherThan, outsider, missingOf, heldOff, rivalOf, settledAt, settled, decision}
-use Rattle.filter.specs.Run.{atMost, limited, grown, measured, gain, moved, shrunk, outcome}
-use Rattle.filter.specs.Step.{tab, place}
-use Rattle.filter.specs.Step as Rounds
-use Rattle.filter.specs.Share.{addAll, total, sumOf, weightSum, target, share, targets}
-use Rattle.filter.specs.Compute.{newState, setPoints}
-use Rattle.message.specs.Head.{headFits, carried}
-use Rattle.message.specs.Message.{plain, messageFits}
-use Rattle.message.specs.Readings.{readingsFit}
 use Rattle.message.specs.Settings.{certificateFits, settingsFit}
-use Rattle.plan.specs.Plan.{afterwards}
-use Rattle.plan.specs.Readings.{collected, sameRound, planReading, answered, inQuery, planQuery, inReply, planReply}
-use Rattle.plan.specs.States.{planAdvert, overtaken, adopted, inUpdate, planUpdate}
-use Rattle.plan.specs.Timers.{missingRuns, asking, inDue, planDue, inEnds, planEnds}
-use Rattle.plan.specs.Votes.{inFloor, planFloor, inSeat, inDigest, planDigest, possessed, chosenPlan, judged}
 use Rattle.lines.specs.Lists.{column}
-use Rattle.controller.specs.State.{phaseFits, controllerFits}
-use Rattle.controller.specs.Start.{startEstimates, startOf, started}
-use Rattle.controller.specs.Merge.{runBit, agrees, merged}
-use Rattle.controller.specs.Effects.{applied}
-use Rattle.controller.specs.Sent.{sentMessage}
-use Rattle.controller.specs.Step.{judgedIn, judgedPlan, planned, inputsFit, stepped}
-use Rattle.controller_laws.specs.Session.{estimateBits, line, numbers}
-use Rattle.group.specs.World.{empty, put}
+use Rattle.controller_laws.specs.Session.{numbers}
+use Rattle.group.specs.World.{empty}
 use Rattle.group.specs.Premises.{Kept, here, Run}
-use Rattle.group.specs.Scripts.{played, exchanged, marked, highest, fairly, fair, allFair, writable, allWritable, inOrder, saying}
-use Rattle.group.specs.Examples.{steady, session, sessionSays, three, returning, returningSays, certified}
+use Rattle.group.specs.Scripts.{played, allFair, allWritable, refusals, saying}
+use Rattle.group.specs.Examples.{steady, session, sessionSays, three, returning, returningSays, mixed, mixedNumbers, mixedSays, certified}
 use Rattle.group.specs.Wire.{OnwardLines, silent}
 use Rattle.group.specs.Wire as Lines
 use Rattle.group.proofs.Examples.{scripted}
 use Rattle.group.proofs.Wire.{wireOf}
 use Rattle.group.proofs.WireExamples.{scripted-lines}
 use Rattle.group.proofs.StationExamples.{Stood, stood}
+use Rattle.group.proofs.Computes.{run-computes}
 
 -- each event keeps the premises
 session-fair : allFair numbers steady empty session ≡ true
-unfolding numbers session estimateBits line ones lt le eq add sub mul div ofInt ofBits toBits fits every pick groupFits runsFit numbersFit bitsOf floatOf sameFloat estimateFits sameEstimate stateFits targetsFit sameState legal same rank unrank full least seatFits seatsFit votesFit tallyOf strengthOf largest otherThan outsider missingOf heldOff rivalOf settledAt settled decision atMost limited grown measured gain moved shrunk outcome tab place Rounds.stepped addAll total sumOf weightSum target share targets newState setPoints headFits carried plain messageFits readingsFit afterwards collected sameRound planReading answered inQuery planQuery inReply planReply planAdvert overtaken adopted inUpdate planUpdate missingRuns asking inDue planDue inEnds planEnds inFloor planFloor inSeat inDigest planDigest possessed chosenPlan judged phaseFits controllerFits startEstimates startOf started runBit agrees merged applied sentMessage judgedIn judgedPlan planned inputsFit stepped put played exchanged marked highest fairly fair allFair inOrder steady
+unfolding run-computes numbers session
 session-fair = refl
 
 returning-fair : allFair three steady empty returning ≡ true
-unfolding three returning estimateBits line ones lt le eq add sub mul div ofInt ofBits toBits fits every pick groupFits runsFit numbersFit bitsOf floatOf sameFloat estimateFits sameEstimate stateFits targetsFit sameState legal same rank unrank full least seatFits seatsFit votesFit tallyOf strengthOf largest otherThan outsider missingOf heldOff rivalOf settledAt settled decision atMost limited grown measured gain moved shrunk outcome tab place Rounds.stepped addAll total sumOf weightSum target share targets newState setPoints headFits carried plain messageFits readingsFit afterwards collected sameRound planReading answered inQuery planQuery inReply planReply planAdvert overtaken adopted inUpdate planUpdate missingRuns asking inDue planDue inEnds planEnds inFloor planFloor inSeat inDigest planDigest possessed chosenPlan judged phaseFits controllerFits startEstimates startOf started runBit agrees merged applied sentMessage judgedIn judgedPlan planned inputsFit stepped put played exchanged marked highest fairly fair allFair inOrder steady
+unfolding run-computes three returning
 returning-fair = refl
 
 -- document 01's session, as a run that keeps every premise, and all that is sent in it
@@ -58,7 +32,7 @@ pub session-run : Run numbers (Kept steady) (played numbers empty session)
 session-run = scripted numbers steady empty empty session here session-fair
 
 pub session-says : saying numbers (played numbers empty session) ≡ sessionSays
-unfolding numbers session sessionSays estimateBits line ones lt le eq add sub mul div ofInt ofBits toBits fits every pick groupFits runsFit numbersFit bitsOf floatOf sameFloat estimateFits sameEstimate stateFits targetsFit sameState legal same rank unrank full least seatFits seatsFit votesFit tallyOf strengthOf largest otherThan outsider missingOf heldOff rivalOf settledAt settled decision atMost limited grown measured gain moved shrunk outcome tab place Rounds.stepped addAll total sumOf weightSum target share targets newState setPoints headFits carried plain messageFits readingsFit afterwards collected sameRound planReading answered inQuery planQuery inReply planReply planAdvert overtaken adopted inUpdate planUpdate missingRuns asking inDue planDue inEnds planEnds inFloor planFloor inSeat inDigest planDigest possessed chosenPlan judged phaseFits controllerFits startEstimates startOf started runBit agrees merged applied sentMessage judgedIn judgedPlan planned inputsFit stepped put played exchanged marked highest fairly fair allFair inOrder steady
+unfolding run-computes numbers session sessionSays
 session-says = refl
 
 -- a crash, a restart at the floor, two issued labels: a run that keeps every premise, and all that is sent in it
@@ -66,24 +40,47 @@ pub returning-run : Run three (Kept steady) (played three empty returning)
 returning-run = scripted three steady empty empty returning here returning-fair
 
 pub returning-says : saying three (played three empty returning) ≡ returningSays
-unfolding three returning returningSays estimateBits line ones lt le eq add sub mul div ofInt ofBits toBits fits every pick groupFits runsFit numbersFit bitsOf floatOf sameFloat estimateFits sameEstimate stateFits targetsFit sameState legal same rank unrank full least seatFits seatsFit votesFit tallyOf strengthOf largest otherThan outsider missingOf heldOff rivalOf settledAt settled decision atMost limited grown measured gain moved shrunk outcome tab place Rounds.stepped addAll total sumOf weightSum target share targets newState setPoints headFits carried plain messageFits readingsFit afterwards collected sameRound planReading answered inQuery planQuery inReply planReply planAdvert overtaken adopted inUpdate planUpdate missingRuns asking inDue planDue inEnds planEnds inFloor planFloor inSeat inDigest planDigest possessed chosenPlan judged phaseFits controllerFits startEstimates startOf started runBit agrees merged applied sentMessage judgedIn judgedPlan planned inputsFit stepped put played exchanged marked highest fairly fair allFair inOrder steady
+unfolding run-computes three returning returningSays
 returning-says = refl
+
+-- all three controllers issue one label, each from other votes, after a round that ended undecided: a run that keeps every premise, all that is sent in it, and every refusal
+mixed-fair : allFair three steady empty mixed ≡ true
+unfolding run-computes three mixed
+mixed-fair = refl
+
+pub mixed-run : Run three (Kept steady) (played three empty mixed)
+mixed-run = scripted three steady empty empty mixed here mixed-fair
+
+pub mixed-says : saying three (played three empty mixed) ≡ mixedSays
+unfolding run-computes three mixed mixedSays
+mixed-says = refl
+
+pub mixed-refused : refusals three empty mixed ≡ mixedNumbers
+unfolding run-computes three mixed mixedNumbers
+mixed-refused = refl
 
 -- every message in them can be written
 session-written : allWritable numbers session ≡ true
-unfolding numbers session writable allWritable estimateBits line ones lt le eq add sub mul div ofInt ofBits toBits fits every pick groupFits runsFit numbersFit bitsOf floatOf sameFloat estimateFits sameEstimate stateFits targetsFit sameState legal same rank unrank full least seatFits seatsFit votesFit tallyOf strengthOf largest otherThan outsider missingOf heldOff rivalOf settledAt settled decision atMost limited grown measured gain moved shrunk outcome tab place Rounds.stepped addAll total sumOf weightSum target share targets newState setPoints headFits carried plain messageFits readingsFit afterwards collected sameRound planReading answered inQuery planQuery inReply planReply planAdvert overtaken adopted inUpdate planUpdate missingRuns asking inDue planDue inEnds planEnds inFloor planFloor inSeat inDigest planDigest possessed chosenPlan judged phaseFits controllerFits startEstimates startOf started runBit agrees merged applied sentMessage judgedIn judgedPlan planned inputsFit stepped put played exchanged marked highest fairly fair allFair inOrder steady
+unfolding run-computes numbers session
 session-written = refl
 
 returning-written : allWritable three returning ≡ true
-unfolding three returning writable allWritable estimateBits line ones lt le eq add sub mul div ofInt ofBits toBits fits every pick groupFits runsFit numbersFit bitsOf floatOf sameFloat estimateFits sameEstimate stateFits targetsFit sameState legal same rank unrank full least seatFits seatsFit votesFit tallyOf strengthOf largest otherThan outsider missingOf heldOff rivalOf settledAt settled decision atMost limited grown measured gain moved shrunk outcome tab place Rounds.stepped addAll total sumOf weightSum target share targets newState setPoints headFits carried plain messageFits readingsFit afterwards collected sameRound planReading answered inQuery planQuery inReply planReply planAdvert overtaken adopted inUpdate planUpdate missingRuns asking inDue planDue inEnds planEnds inFloor planFloor inSeat inDigest planDigest possessed chosenPlan judged phaseFits controllerFits startEstimates startOf started runBit agrees merged applied sentMessage judgedIn judgedPlan planned inputsFit stepped put played exchanged marked highest fairly fair allFair inOrder steady
+unfolding run-computes three returning
 returning-written = refl
 
--- the same two runs over lines
+mixed-written : allWritable three mixed ≡ true
+unfolding run-computes three mixed
+mixed-written = refl
+
+-- the same runs over lines
 pub session-lines : OnwardLines numbers steady silent (wireOf numbers steady (played numbers empty session))
 session-lines = scripted-lines numbers steady empty session here Lines.here session-fair session-written
 
 pub returning-lines : OnwardLines three steady silent (wireOf three steady (played three empty returning))
 returning-lines = scripted-lines three steady empty returning here Lines.here returning-fair returning-written
+
+pub mixed-lines : OnwardLines three steady silent (wireOf three steady (played three empty mixed))
+mixed-lines = scripted-lines three steady empty mixed here Lines.here mixed-fair mixed-written
 
 -- and of stations, which have the session's certificates
 pub session-certified : settingsFit (certified numbers) ≡ true
@@ -99,3 +96,6 @@ session-stations = stood (certified numbers) session-certified steady session-li
 
 pub returning-stations : Stood (certified three) returning-certified steady (wireOf three steady (played three empty returning))
 returning-stations = stood (certified three) returning-certified steady returning-lines
+
+pub mixed-stations : Stood (certified three) returning-certified steady (wireOf three steady (played three empty mixed))
+mixed-stations = stood (certified three) returning-certified steady mixed-lines

@@ -1,4 +1,5 @@
--- THE PREMISES CAN BE MET: document 01's session without its last line and with controller 1 sending its A; and three controllers of whom one crashes after its vote and restarts, with two labels issued.
+-- THE PREMISES CAN BE MET: document 01's session without its last line and with controller 1 sending its A; three controllers of whom one crashes after its vote and restarts, with two labels issued;
+-- and a run in which lines come twice, floors come back out of order, a round ends by 12, and all three issue one label, each from other votes.
 use Prim.Native.Nat.{ℕ}
 use mathlib.Core.List.{List, [], _∷_}
 use lib.Dec.{eqb}
@@ -8,7 +9,7 @@ use Rattle.units.specs.declared.labels.StateLabel.{StateLabel}
 use Rattle.units.specs.declared.settings.Numbers.{Numbers}
 use Rattle.units.specs.Pick.{pick}
 use Rattle.vote.specs.declared.digest.Digest.{Digest}
-use Rattle.message.specs.declared.head.Head.the-variants.{Reading, Query, Reply, Advert, Update, Vote, Setpoints, Due, CollectingEnds, Floor, Start}
+use Rattle.message.specs.declared.head.Head.the-variants.{Reading, Query, Reply, Advert, Update, Vote, Setpoints, Due, CollectingEnds, VotingEnds, Floor, Start}
 use Rattle.message.specs.declared.settings.Settings.{Settings}
 use Rattle.lines.specs.Settling.{noOne, certificateOf}
 use Rattle.controller_laws.specs.Session.{Line, sends, sized}
@@ -119,4 +120,63 @@ returningSays =
     ∷ sends (Vote 1 (round 2) (bothRuns 1)) []
     ∷ sends (Setpoints 1 (round 2) (bothRuns 1)) (0x40FD_69EB_9310_5726 ∷ 0x40E3_9BF2_620A_E4C4 ∷ [])
     ∷ sends (Setpoints 0 (round 2) (bothRuns 1)) (0x40FD_69EB_9310_5726 ∷ 0x40E3_9BF2_620A_E4C4 ∷ [])
+    ∷ []
+
+-- ---- everything late, twice or in another order
+-- Controller 0 goes to round 2 before the floor of round 1 has come back; F 2 comes back before F 1, which is then of another label (10). Its timer ends round 2 undecided (12). It is given a B while it runs.
+-- Round 3: controller 1 gets the D of controller 0 twice, and issues from the votes of 0 and 1; 2 issues from those of 1 and 2; 0 from those of 0 and 2
+unfoldable pub mixed : List Act
+mixed =
+    give 0 (Start 0 (round 0))
+    ∷ give 1 (Start 1 (round 0))
+    ∷ give 2 (Start 2 (round 0))
+    ∷ give 0 (Reading (round 1) 0 200000)
+    ∷ give 0 (CollectingEnds (round 1))
+    ∷ keep 0 (round 1)
+    ∷ give 0 (Reading (round 2) 0 200000)
+    ∷ give 0 (CollectingEnds (round 2))
+    ∷ keep 0 (round 2)
+    ∷ give 0 (Floor (round 2))
+    ∷ give 0 (Floor (round 1))
+    ∷ give 0 (VotingEnds (round 2))
+    ∷ give 0 (Start 0 (round 2))
+    ∷ give 0 (Reading (round 3) 0 200000)
+    ∷ give 0 (Reading (round 3) 1 199060)
+    ∷ give 0 (CollectingEnds (round 3))
+    ∷ keep 0 (round 3)
+    ∷ give 0 (Floor (round 3))
+    ∷ give 1 (Reading (round 3) 0 200000)
+    ∷ give 1 (Reading (round 3) 1 199060)
+    ∷ pass 1 4
+    ∷ pass 1 4
+    ∷ give 1 (CollectingEnds (round 3))
+    ∷ keep 1 (round 3)
+    ∷ give 1 (Floor (round 3))
+    ∷ give 2 (Reading (round 3) 0 200000)
+    ∷ give 2 (Reading (round 3) 1 199060)
+    ∷ give 2 (CollectingEnds (round 3))
+    ∷ keep 2 (round 3)
+    ∷ give 2 (Floor (round 3))
+    ∷ pass 2 6
+    ∷ pass 0 9
+    ∷ []
+
+-- no act is refused but the late F and the round's end
+unfoldable pub mixedNumbers : List ℕ
+mixedNumbers = 0 ∷ 0 ∷ 0 ∷ 0 ∷ 0 ∷ 0 ∷ 0 ∷ 0 ∷ 0 ∷ 0 ∷ 10 ∷ 12 ∷ replicate 20 0
+
+unfoldable pub mixedSays : List Line
+mixedSays =
+    sends (Floor (round 1)) []
+    ∷ sends (Floor (round 2)) []
+    ∷ sends (Vote 0 (round 2) (record { mask = 1; state = stateOf 0 })) []
+    ∷ sends (Floor (round 3)) []
+    ∷ sends (Vote 0 (round 3) (bothRuns 0)) []
+    ∷ sends (Floor (round 3)) []
+    ∷ sends (Vote 1 (round 3) (bothRuns 0)) []
+    ∷ sends (Setpoints 1 (round 3) (bothRuns 0)) (0x40F2_9576_72A0_7A45 ∷ 0x40D8_C748_98D5_F85C ∷ [])
+    ∷ sends (Floor (round 3)) []
+    ∷ sends (Vote 2 (round 3) (bothRuns 0)) []
+    ∷ sends (Setpoints 2 (round 3) (bothRuns 0)) (0x40F2_9576_72A0_7A45 ∷ 0x40D8_C748_98D5_F85C ∷ [])
+    ∷ sends (Setpoints 0 (round 3) (bothRuns 0)) (0x40F2_9576_72A0_7A45 ∷ 0x40D8_C748_98D5_F85C ∷ [])
     ∷ []

@@ -4,6 +4,7 @@ pub mod Premises
 pub mod Demand
 pub mod Wire
 pub mod Stations
+pub mod Programs
 pub mod Scripts
 pub mod Examples
 pub mod Schedules

@@ -2,14 +2,18 @@
 use Prim.Native.Nat.{ℕ, _-_}
 use mathlib.Core.Bool.{Bool, true, false, _&&_, _||_}
 use mathlib.Core.List.{List, [], _∷_}
+use mathlib.Core.Option.{Option, none, some}
 use lib.Dec.{eqb, leb, ltb}
 use lib.ListN.{length, getD}
 use Rattle.units.specs.declared.labels.RoundLabel.{RoundLabel}
 use Rattle.units.specs.declared.settings.Numbers.{Numbers}
+use Rattle.units.specs.Refusal.{verdictNumber}
 use Rattle.message.specs.declared.head.Head.{Head}
 use Rattle.message.specs.declared.head.Head.the-variants.{Reading, Query, Reply, Advert, Update, Vote, Setpoints, Due, CollectingEnds, VotingEnds, Floor, Start, Refused}
 use Rattle.message.specs.declared.value.Message.{Message}
 use Rattle.message.specs.Message.{plain, messageFits}
+use Rattle.controller.specs.declared.state.Controller.{Controller}
+use Rattle.controller.specs.Step.{stepped}
 use Rattle.controller_laws.specs.Session.{Line, line}
 use Rattle.group.specs.World.{Mark, World, Event, hand, store, crash, after}
 use Rattle.group.specs.Premises.{Meters}
@@ -95,6 +99,20 @@ writable s (fall i) = true
 unfoldable pub allWritable : Numbers → List Act → Bool
 allWritable s [] = true
 allWritable s (x ∷ more) = writable s x && allWritable s more
+
+-- the number of the refusal that each act leads to, 0 where there is none
+abbrev pub numberFrom : Numbers → Message → Option Controller → ℕ
+numberFrom s a none = 0
+numberFrom s a (some c) = verdictNumber (stepped s c a .verdict)
+
+abbrev pub numberAt : Numbers → World → Event → ℕ
+numberAt s w (hand i a) = numberFrom s a (w .up i)
+numberAt s w (store i label) = 0
+numberAt s w (crash i) = 0
+
+unfoldable pub refusals : Numbers → World → List Act → List ℕ
+refusals s w [] = []
+refusals s w (x ∷ more) = numberAt s w (eventOf w x) ∷ refusals s (after s w (eventOf w x)) more
 
 -- all that was sent, the oldest first, with the bits of its floats
 unfoldable pub inOrder : Numbers → List Message → List Line → List Line

@@ -3,26 +3,24 @@ use Prim.Native.Nat.{ℕ}
 use mathlib.Core.Path.{_≡_}
 use mathlib.Core.List.{List, [], _∷_, _++_, List·Memᴰ}
 use mathlib.Core.Option.{Option, none, some}
-use lib.Dec.{eqb}
 use Rattle.units.specs.declared.labels.RoundLabel.{RoundLabel}
 use Rattle.units.specs.declared.refusal.Verdict.{Verdict}
 use Rattle.units.specs.declared.refusal.Verdict.the-variants.{Taken, Refused as Denied}
 use Rattle.units.specs.declared.settings.Numbers.{Numbers}
-use Rattle.units.specs.Pick.{pick}
 use Rattle.vote.specs.declared.digest.Digest.{Digest}
 use Rattle.message.specs.declared.head.Head.{Head}
-use Rattle.message.specs.declared.head.Head.the-variants.{Setpoints}
-use Rattle.fields.specs.Lines.{linesOf}
+use Rattle.message.specs.declared.head.Head.the-variants.{Vote, Setpoints}
 use Rattle.lines.specs.Reading.{readLine}
 use Rattle.lines.specs.Writing.{spellLine}
 use Rattle.controller.specs.declared.state.Controller.{Controller}
 use Rattle.session.specs.declared.stage.Core.{Core}
 use Rattle.session.specs.declared.stage.Stage.{Stage}
 use Rattle.session.specs.declared.stage.Stage.the-variants.{Settling as AtSettings, Waiting, Running, Ended}
-use Rattle.session.specs.Booting.{led}
+use Rattle.session.specs.Booting.{led, told}
 use Rattle.session.specs.Demand.{saidBy}
+use Rattle.fields.specs.Lines.{linesOf}
 use Rattle.session.specs.Turn.{numbersIn, groupIn, coreStart, turn}
-use Rattle.group.specs.World.{Mark, mark, confirms}
+use Rattle.group.specs.World.{Mark, mark, put, confirms}
 use Rattle.group.specs.Premises.{Meters}
 use Rattle.group.specs.Demand.{Right}
 use Rattle.group.specs.Wire.{Wire, KeptLine, readAs, readAll, from}
@@ -44,9 +42,6 @@ pub data Doing : Type 0 where
   crash : ℕ → Doing
   boot : ℕ → List (List ℕ) → Doing
 
-unfoldable pub seat : (ℕ → Option Core) → ℕ → Option Core → ℕ → Option Core
-seat up i c j = pick (eqb j i) c (up j)
-
 -- lines put ahead of those before, one by one
 unfoldable pub puts : List (List ℕ) → List (List ℕ) → List (List ℕ)
 puts [] before = before
@@ -65,7 +60,7 @@ abbrev pub turned : Stations → ℕ → List ℕ → Option Core → Stations
 turned w i line none = w
 turned w i line (some c) =
     record {
-      up = seat (w .up) i (some (turn c line .next));
+      up = put (w .up) i (some (turn c line .next));
       sent = puts (linesOf (turn c line .text)) (w .sent);
       stored = w .stored;
       confirmed = confirming i (saidBy c line .head) (readLine (groupIn c) line .verdict) (c .stage) ++ w .confirmed;
@@ -74,8 +69,8 @@ turned w i line (some c) =
 abbrev pub later : Stations → Doing → Stations
 later w (hand i line) = turned w i line (w .up i)
 later w (store i label) = record { up = w .up; sent = w .sent; stored = mark i label ∷ w .stored; confirmed = w .confirmed }
-later w (crash i) = record { up = seat (w .up) i none; sent = w .sent; stored = w .stored; confirmed = w .confirmed }
-later w (boot i lines) = record { up = seat (w .up) i (some (led coreStart lines)); sent = w .sent; stored = w .stored; confirmed = w .confirmed }
+later w (crash i) = record { up = put (w .up) i none; sent = w .sent; stored = w .stored; confirmed = w .confirmed }
+later w (boot i lines) = record { up = put (w .up) i (some (led coreStart lines)); sent = puts (linesOf (told coreStart lines)) (w .sent); stored = w .stored; confirmed = w .confirmed }
 
 -- ---- the wire that stations make
 -- before its first B a program has no controller
@@ -121,11 +116,14 @@ pub data OnwardStations (s : Numbers) (meters : Meters) (w : Stations) : Station
   here : OnwardStations s meters w w
   next : {v : Stations} → OnwardStations s meters w v → (e : Doing) → OnStation s meters v e → OnwardStations s meters w (later v e)
 
--- ---- WHAT DEMAND 3 SAYS of what stations write: of every line ever written that is read as an S
+-- ---- WHAT DEMAND 3 SAYS of what stations write: of every line ever written that is read as an S or a D
 pub record Demand3Stations (s : Numbers) (meters : Meters) (w v : Stations) : Type 0 where
-  -- it is right, by the lines D that are ever written
+  -- an S is right, by the lines D that are ever written
   pub right : (x : List ℕ) → List·Memᴰ x (w .sent) → readLine (s .group) x .verdict ≡ Taken → (i : ℕ) (label : RoundLabel) (digest : Digest) → readAs s x .head ≡ Setpoints i label digest
       → Right s meters (readAll s (spoken s (v .sent))) label digest (readAs s x .targets)
   -- another of the same label, written at any time by any station, has the same bytes but for its sender
   pub same : (x y : List ℕ) → List·Memᴰ x (w .sent) → List·Memᴰ y (v .sent) → readLine (s .group) x .verdict ≡ Taken → readLine (s .group) y .verdict ≡ Taken
       → (i j : ℕ) (label : RoundLabel) (d e : Digest) → readAs s x .head ≡ Setpoints i label d → readAs s y .head ≡ Setpoints j label e → y ≡ spellLine (s .group) (from j label d (readAs s x))
+  -- no number ever releases two digests for a label
+  pub one : (x y : List ℕ) → List·Memᴰ x (v .sent) → List·Memᴰ y (v .sent) → readLine (s .group) x .verdict ≡ Taken → readLine (s .group) y .verdict ≡ Taken
+      → (i : ℕ) (label : RoundLabel) (d e : Digest) → readAs s x .head ≡ Vote i label d → readAs s y .head ≡ Vote i label e → d ≡ e

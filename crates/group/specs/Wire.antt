@@ -8,7 +8,7 @@ use Rattle.units.specs.declared.refusal.Verdict.{Verdict}
 use Rattle.units.specs.declared.refusal.Verdict.the-variants.{Taken, Refused as Denied}
 use Rattle.units.specs.declared.settings.Numbers.{Numbers}
 use Rattle.vote.specs.declared.digest.Digest.{Digest}
-use Rattle.message.specs.declared.head.Head.the-variants.{Setpoints}
+use Rattle.message.specs.declared.head.Head.the-variants.{Vote, Setpoints}
 use Rattle.message.specs.declared.value.Message.{Message}
 use Rattle.lines.specs.Reading.{readLine}
 use Rattle.lines.specs.Writing.{spellLine}
@@ -99,3 +99,5 @@ pub record Demand3Lines (s : Numbers) (meters : Meters) (w v : Wire) : Type 0 wh
   -- a line S of the same label, sent at any time, has the same bytes but for its sender
   pub same : (x y : List ℕ) → List·Memᴰ x (w .sent) → List·Memᴰ y (v .sent) → (i j : ℕ) (label : RoundLabel) (d e : Digest) → readAs s x .head ≡ Setpoints i label d → readAs s y .head ≡ Setpoints j label e
       → y ≡ spellLine (s .group) (from j label d (readAs s x))
+  -- no number ever releases two digests for a label
+  pub one : (x y : List ℕ) → List·Memᴰ x (v .sent) → List·Memᴰ y (v .sent) → (i : ℕ) (label : RoundLabel) (d e : Digest) → readAs s x .head ≡ Vote i label d → readAs s y .head ≡ Vote i label e → d ≡ e

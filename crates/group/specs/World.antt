@@ -45,8 +45,8 @@ pub data Event : Type 0 where
   store : ℕ → RoundLabel → Event
   crash : ℕ → Event
 
--- another controller, or none, for one number
-unfoldable pub put : (ℕ → Option Controller) → ℕ → Option Controller → ℕ → Option Controller
+-- another one, or none, for one number
+unfoldable pub put : {A : Type 0} → (ℕ → Option A) → ℕ → Option A → ℕ → Option A
 put up i c j = pick (eqb j i) c (up j)
 
 abbrev pub withUp : World → ℕ → Option Controller → World
