@@ -127,14 +127,14 @@ module _ (s : Numbers) (meters : Meters) {w : World} (run : Run s (Enough meters
           (λ t. let u = sym (in-and mask (c .held) i) ∙ t in g i k (and-left (inMask mask i) _ u) ∙ sym (f .reads i k (and-right (inMask mask i) _ u))))
 
       clash : (h : Head) → a .head ≡ h → Clashed c a h → ⊥
-      clash h e (by-reading {run = r} {raw = raw} open old b n) =
+      clash h e (by-reading {run = r} {raw = raw} phase old b n) =
           let k : r < 16 = omega (arith, reading-run (s .group) (c .label) r raw (fits (Reading (c .label) r raw) e), small) in
           n (f .reads r k b ∙ sym (p .one-reading (c .label) r raw e))
-      clash h e (by-reply {sender} {mask} ne open b) = true≢false (sym b ∙ ap not (agreed mask (λ i k q. x .readings sender (c .label) mask e i k q)))
+      clash h e (by-reply {sender} {mask} ne phase b) = true≢false (sym b ∙ ap not (agreed mask (λ i k q. x .readings sender (c .label) mask e i k q)))
         where
           x : Says s meters (w .sent) (once s meters run .lines) (once s meters run .unique) a
           x = sound-run s meters run .said a (sent-one (Reply sender (c .label) mask) e tt)
-      clash h e (by-update {sender} ne open b) =
+      clash h e (by-update {sender} ne phase b) =
           let z : a .estimates ≡ c .estimates = one-state (in-message {x = a} {sender = sender} {label = c .state} (sent-one (Update sender (c .state)) e tt) e) (in-controller {i = i} {c = c} at) in
           true≢false (sym (ap (λ (x : List Estimate). sameState x (c .estimates)) z ∙ same-state-self (s .group .m) (c .estimates) (valid .estimates)) ∙ b)
       clash h e (by-digest {sender} {digest} {e = d} ne busy b n) =
