@@ -7,6 +7,10 @@ controllersTop = 7
 abbrev pub runsTop : ℕ
 runsTop = 16
 
+-- "certificate (1 to 16 bytes ..)"
+abbrev pub certificateTop : ℕ
+certificateTop = 16
+
 abbrev pub labelTop : ℕ
 labelTop = 4294967295
 

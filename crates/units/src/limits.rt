@@ -5,6 +5,9 @@ pub const CONTROLLERS: usize = 7;
 
 pub const RUNS: usize = 16;
 
+// The bytes of a certificate.
+pub const CERTIFICATE: usize = 16;
+
 // Round labels and state labels.
 pub const ROUND_LOW: u32 = 1;
 
