@@ -49,15 +49,20 @@ module _ (s : Numbers) where
   abbrev first : Bool
   first = within 1 firstTop (s .p)
 
-  four : numbersFit s ≡ true → (groupFits (s .group) ≡ true) × (noise ≡ true) × (first ≡ true) × (runsFit s ≡ true)
-  unfolding numbersFit
-  four h =
+  -- the tests that `numbersFit` is made of, taken apart and put together
+  pub numbers-parts : numbersFit s ≡ true → (groupFits (s .group) ≡ true) × (noise ≡ true) × (first ≡ true) × ((i : ℕ) → i < 16 → placeAt s i ≡ true)
+  unfolding numbersFit runsFit
+  numbers-parts h =
       let k = and-three (groupFits (s .group)) noise first (and-left (groupFits (s .group) && noise && first) (runsFit s) h) in
-      (k .0, k .1, k .2, and-right (groupFits (s .group) && noise && first) (runsFit s) h)
+      (k .0, k .1, k .2, λ i b. every-at (placeAt s) runsTop i (and-right (groupFits (s .group) && noise && first) (runsFit s) h) b)
+
+  pub numbers-from : groupFits (s .group) ≡ true → noise ≡ true → first ≡ true → ((i : ℕ) → i < 16 → placeAt s i ≡ true) → numbersFit s ≡ true
+  unfolding numbersFit runsFit
+  numbers-from g n p f = and-both (and-both (and-both g n) p) (every-all (placeAt s) runsTop f)
 
   -- settings in range are of a group in range
   pub group-fits : numbersFit s ≡ true → groupFits (s .group) ≡ true
-  group-fits h = four h .0
+  group-fits h = numbers-parts h .0
 
   abbrev factorAt : ℕ → ℕ
   factorAt i = getD (s .factors) i 0
@@ -71,16 +76,12 @@ module _ (s : Numbers) where
   blank-place : (i : ℕ) → placeAt s i ≡ true → s .group .m ≤ i → placeFits false (factorAt i) (weightAt i) ≡ true
   blank-place i h l = rw (le-ltb i (s .group .m) l) at h
 
-  place : runsFit s ≡ true → (i : ℕ) → i < 16 → placeAt s i ≡ true
-  unfolding runsFit
-  place h i b = every-at (placeAt s) runsTop i h b
-
   pub numbers-range : numbersFit s ≡ true → NumbersInRange s
   numbers-range h =
-      let k = four h in
+      let k = numbers-parts h in
       let g = group-range (s .group) (k .0) in
       let in-sixteen : (i : ℕ) → i < s .group .m → i < 16 = λ i l. omega (arith, g .runs) in
-      let run : (i : ℕ) → i < s .group .m → placeFits true (factorAt i) (weightAt i) ≡ true = λ i l. run-place i (place (k .3) i (in-sixteen i l)) l in
+      let run : (i : ℕ) → i < s .group .m → placeFits true (factorAt i) (weightAt i) ≡ true = λ i l. run-place i (k .3 i (in-sixteen i l)) l in
       record {
         controllers = g .controllers;
         runs = g .runs;
@@ -90,7 +91,7 @@ module _ (s : Numbers) where
         factor = λ i l. within-range factorLow factorTop (factorAt i) (and-left (within factorLow factorTop (factorAt i)) _ (run i l));
         weight = λ i l. within-range 1 weightTop (weightAt i) (and-right (within factorLow factorTop (factorAt i)) _ (run i l));
         blank = λ i l b.
-            let z = blank-place i (place (k .3) i b) l in
+            let z = blank-place i (k .3 i b) l in
             (eqb-true (factorAt i) 0 (and-left (eqb (factorAt i) 0) _ z), eqb-true (weightAt i) 0 (and-right (eqb (factorAt i) 0) _ z));
       }
 
@@ -104,13 +105,9 @@ module _ (s : Numbers) where
       ap (λ (t : Bool). placeFits t (factorAt i) (weightAt i)) (le-ltb i (s .group .m) l) ∙ and-both (eq-eqb (factorAt i) 0 (z .0)) (eq-eqb (weightAt i) 0 (z .1)))
 
   pub numbers-made : NumbersInRange s → numbersFit s ≡ true
-  unfolding numbersFit runsFit
   numbers-made f =
-      and-both
-      (and-both
-      (and-both (group-made (s .group) (record { controllers = f .controllers; runs = f .runs })) (and-both (within-made 1 noiseTop (s .q) (f .q)) (within-made 1 noiseTop (s .r) (f .r))))
-      (within-made 1 firstTop (s .p) (f .p)))
-      (every-all (placeAt s) runsTop (place-made f))
+      numbers-from (group-made (s .group) (record { controllers = f .controllers; runs = f .runs }))
+      (and-both (within-made 1 noiseTop (s .q) (f .q)) (within-made 1 noiseTop (s .r) (f .r))) (within-made 1 firstTop (s .p) (f .p)) (place-made f)
 
   -- IN RANGE EXACTLY WHEN each clause of document 01 holds
   pub numbers-exact : (numbersFit s ≡ true → NumbersInRange s) × (NumbersInRange s → numbersFit s ≡ true)
