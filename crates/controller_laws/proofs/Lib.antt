@@ -6,7 +6,6 @@ pub mod Held
 pub mod Valid
 pub mod Fits
 pub mod Refusals
-pub mod Decided
 pub mod Never
 pub mod Sendings
 pub mod Rises

@@ -5,13 +5,14 @@ use lib.Ieee.{lt, le, eq, add, sub, mul, div, ofInt, ofBits, toBits, fits}
 use Rattle.units.specs.Every.{every}
 use Rattle.units.specs.Pick.{pick}
 use Rattle.units.specs.Settings.{groupFits, runsFit, numbersFit}
+use Rattle.units.specs.Tab.{tab}
 use Rattle.floats.specs.Bits.{bitsOf, floatOf, sameFloat}
 use Rattle.floats.specs.Ranges.{estimateFits, sameEstimate, stateFits, targetsFit, sameState}
 use Rattle.vote.specs.Digest.{legal, same, rank, unrank, full, least}
 use Rattle.vote.specs.Vote.{seatFits, seatsFit, votesFit}
 use Rattle.vote.specs.Decision.{tallyOf, strengthOf, largest, otherThan, outsider, missingOf, heldOff, rivalOf, settledAt, settled, decision}
 use Rattle.filter.specs.Run.{atMost, limited, grown, measured, gain, moved, shrunk, outcome}
-use Rattle.filter.specs.Step.{tab, place}
+use Rattle.filter.specs.Runs.{place}
 use Rattle.filter.specs.Step as Rounds
 use Rattle.filter.specs.Share.{addAll, total, sumOf, weightSum, target, share, targets}
 use Rattle.filter.specs.Compute.{newState, setPoints}

@@ -51,7 +51,15 @@ pub(crate) fn shrink(k: f64, p1: f64) -> f64
 }
 
 // One run, n rounds after its state.
-pub(crate) fn run(e: Estimate, n: u32, q: u32, r: u32, chosen: bool, raw: u32, factor: u32) -> Outcome
+pub(crate) fn run(
+    e: Estimate,
+    n: u32,
+    q: u32,
+    r: u32,
+    chosen: bool,
+    raw: u32,
+    factor: u32,
+) -> Outcome
     ensures { λ s. ⌜ s ≡ outcome e n q r chosen raw factor ⌝ }
 {
     let p1 = grow(e.variance, n, q);

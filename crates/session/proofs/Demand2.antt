@@ -17,7 +17,7 @@ use Rattle.vote.specs.declared.votes.Votes.{Votes}
 use Rattle.vote.specs.Decision.{decision}
 use Rattle.vote.specs.Vote.{Answers}
 use Rattle.vote.proofs.Answer.{decision-exact}
-use Rattle.filter.specs.Compute.{newTotal, setPoints, computed}
+use Rattle.filter.specs.Compute.{setPoints, computed}
 use Rattle.message.specs.declared.head.Head.{Head}
 use Rattle.message.specs.declared.head.Head.the-variants.{Setpoints}
 use Rattle.message.specs.declared.settings.Settings.{Settings}
@@ -74,7 +74,6 @@ module _ (s : Numbers) (c : Controller) (a : Message) where
   n = stepped s c a .next
 
   settled-issue : {chosen : Digest} → Settled s c (a .head) chosen n → Issued s c chosen n (setPoints s (n .estimates))
-  unfolding computed newTotal setPoints
   settled-issue t =
       record { label = ap (λ (k : Controller). k .state) (t .next); state = ap (λ (k : Controller). k .estimates) (t .next); given = ap (λ (k : Controller). setPoints s (k .estimates)) (t .next) }
 

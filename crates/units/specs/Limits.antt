@@ -47,5 +47,9 @@ varianceTop = 1000000000
 abbrev pub targetTop : ℕ
 targetTop = 17600000
 
+-- "`X` number (1..16)"
+abbrev pub numberTop : ℕ
+numberTop = 16
+
 abbrev pub lineTop : ℕ
 lineTop = 600

@@ -45,5 +45,10 @@ pub const VARIANCE_TOP: f64 = 1000000000.0;
 
 pub const TARGET_TOP: f64 = 17600000.0;
 
+// A refusal's number, as X may carry it.
+pub const NUMBER_LOW: u32 = 1;
+
+pub const NUMBER_TOP: u32 = 16;
+
 // A line's bytes, its line feed among them.
 pub const LINE: usize = 600;

@@ -1,6 +1,8 @@
 // Why something was refused, and document 01's number for it.
 ghost use mathlib.Core.Path.{_≡_};
 ghost use Rattle.units.specs.Refusal.{isNumber, numberOf, verdictNumber};
+use crate::limits::NUMBER_LOW;
+use crate::limits::NUMBER_TOP;
 
 pub enum Refusal {
     Long,
@@ -50,7 +52,7 @@ impl Refusal {
 pub fn is_number(n: u32) -> bool
     ensures { λ r. ⌜ r ≡ isNumber n ⌝ }
 {
-    (1 <= n) & (n <= 16)
+    (NUMBER_LOW <= n) & (n <= NUMBER_TOP)
 }
 
 // What an act says of itself: taken, or refused.
