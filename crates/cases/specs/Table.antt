@@ -50,8 +50,8 @@ pub data Row : Type 0 where
 
 -- ---- a case of the vote
 
-abbrev pub seated : Ballot → Seat
-seated b = record { ballot = b }
+abbrev pub inSeat : Ballot → Seat
+inSeat b = record { ballot = b }
 
 -- the votes of a case, in a group of as many controllers
 abbrev pub votesOf : VoteCase → Votes
@@ -59,7 +59,7 @@ votesOf c =
     record {
       group = record { g = length (c .votes); m = c .m };
       label = record { 0 = c .label };
-      seats = take 7 (map seated (c .votes) ++ replicate 7 (seated Missing));
+      seats = take 7 (map inSeat (c .votes) ++ replicate 7 (inSeat Missing));
     }
 
 -- ---- a case of computing

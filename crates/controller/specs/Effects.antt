@@ -10,8 +10,7 @@ use Rattle.units.specs.declared.settings.Numbers.{Numbers}
 use Rattle.units.specs.Labels.{issuedState}
 use Rattle.units.specs.Limits.{runsTop, controllersTop}
 use Rattle.vote.specs.declared.digest.Digest.{Digest}
-use Rattle.vote.specs.declared.votes.Ballot.the-variants.{Cast}
-use Rattle.vote.specs.declared.votes.Seat.{Seat}
+use Rattle.vote.specs.Vote.{nobody, seated}
 use Rattle.filter.specs.Compute.{newState}
 use Rattle.message.specs.declared.value.Message.{Message}
 use Rattle.plan.specs.declared.brief.Phase.{Phase}
@@ -19,7 +18,6 @@ use Rattle.plan.specs.declared.brief.Phase.the-variants.{Idle, Collecting}
 use Rattle.plan.specs.declared.planned.Effect.{Effect}
 use Rattle.plan.specs.declared.planned.Effect.the-variants.{Keep, Go, Begin, Add, Merge, Adopt, Count, Issue, Restart}
 use Rattle.controller.specs.declared.state.Controller.{Controller}
-use Rattle.controller.specs.State.{nobody}
 use Rattle.controller.specs.Start.{startOf}
 use Rattle.controller.specs.Merge.{runBit, merged}
 
@@ -54,9 +52,6 @@ mergedIn c mask new = holds c (bitOr (c .held) mask) (merged mask new (c .readin
 abbrev pub adopting : Controller → StateLabel → List Estimate → Phase → Controller
 adopting c state estimates phase =
     record { own = c .own; phase = phase; label = c .label; state = state; estimates = estimates; held = c .held; readings = c .readings; votes = c .votes }
-
-abbrev pub seated : List Seat → ℕ → Digest → List Seat
-seated votes seat digest = set votes seat (record { ballot = Cast digest })
 
 abbrev pub counted : Controller → ℕ → Digest → Phase → Controller
 counted c seat digest phase =

@@ -8,7 +8,7 @@ use Rattle.units.specs.Every.{every}
 use Rattle.units.specs.Limits.{runsTop}
 use Rattle.units.specs.Mask.{inMask}
 use Rattle.units.specs.Pick.{pick}
-use Rattle.filter.specs.Step.{tab}
+use Rattle.units.specs.Tab.{tab}
 
 -- the mask of one run
 unfoldable pub runBit : ℕ → ℕ

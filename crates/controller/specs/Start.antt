@@ -4,6 +4,7 @@ use mathlib.Core.Bool.{Bool, true, false, _&&_}
 use mathlib.Core.List.{List}
 use lib.Dec.{ltb}
 use lib.ListN.{replicate}
+use Rattle.vote.specs.Vote.{nobody}
 use Rattle.units.specs.declared.estimate.Estimate.{Estimate}
 use Rattle.units.specs.declared.labels.RoundLabel.{RoundLabel}
 use Rattle.units.specs.declared.refusal.Refusal.the-variants.{Range}
@@ -13,13 +14,12 @@ use Rattle.units.specs.Labels.{floorFits}
 use Rattle.units.specs.Limits.{runsTop, controllersTop}
 use Rattle.units.specs.Pick.{pick}
 use Rattle.units.specs.Settings.{numbersFit}
+use Rattle.units.specs.Tab.{tab}
 use Rattle.floats.specs.Bits.{ofWhole, nought}
 use Rattle.floats.specs.Ranges.{blank}
-use Rattle.filter.specs.Step.{tab}
 use Rattle.plan.specs.declared.brief.Phase.the-variants.{Idle}
 use Rattle.controller.specs.declared.start.Started.{Started}
 use Rattle.controller.specs.declared.state.Controller.{Controller}
-use Rattle.controller.specs.State.{nobody}
 
 -- a place that is no run is blank
 abbrev pub startAt : Bool → ℕ → Estimate

@@ -13,7 +13,7 @@ use Rattle.vote.specs.declared.votes.Ballot.{Ballot}
 use Rattle.vote.specs.declared.votes.Ballot.the-variants.{Missing, Cast}
 use Rattle.vote.specs.declared.votes.Seat.{Seat}
 use Rattle.vote.specs.Digest.{legal}
-use Rattle.vote.specs.Vote.{seatsFit}
+use Rattle.vote.specs.Vote.{seatsFit, nobody}
 use Rattle.message.specs.Readings.{readingsFit}
 use Rattle.plan.specs.declared.brief.Brief.{Brief}
 use Rattle.plan.specs.declared.brief.Phase.{Phase}
@@ -28,9 +28,6 @@ tops = record { controllers = controllersTop; runs = runsTop; label = labelTop; 
 
 abbrev pub briefOf : Controller → Brief
 briefOf c = record { own = c .own; phase = c .phase; label = c .label; state = c .state; held = c .held }
-
-abbrev pub nobody : Seat
-nobody = record { ballot = Missing }
 
 -- what the seat of a number holds
 abbrev pub ballotAt : Controller → ℕ → Ballot

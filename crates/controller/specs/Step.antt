@@ -15,6 +15,7 @@ use Rattle.vote.specs.declared.digest.Digest.{Digest}
 use Rattle.vote.specs.declared.judge.Decision.{Decision}
 use Rattle.vote.specs.declared.votes.Votes.{Votes}
 use Rattle.vote.specs.Decision.{decision}
+use Rattle.vote.specs.Vote.{seated}
 use Rattle.message.specs.declared.head.Head.{Head}
 use Rattle.message.specs.declared.head.Head.the-variants.{Reading, Query, Reply, Advert, Update, Vote, Setpoints, Due, CollectingEnds, VotingEnds, Floor, Start, Refused}
 use Rattle.message.specs.declared.value.Message.{Message}
@@ -35,7 +36,7 @@ use Rattle.controller.specs.declared.state.Controller.{Controller}
 use Rattle.controller.specs.declared.step.Answer.{Answer}
 use Rattle.controller.specs.State.{briefOf, ballotAt, controllerFits}
 use Rattle.controller.specs.Merge.{agrees}
-use Rattle.controller.specs.Effects.{seated, applied}
+use Rattle.controller.specs.Effects.{applied}
 
 -- the votes of the current label, with one more in its seat
 abbrev pub votesWith : Numbers → Controller → ℕ → Digest → Votes

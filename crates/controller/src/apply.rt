@@ -1,7 +1,7 @@
 // The one place where a plan's effect is applied to the controller: what an effect doesn't name stays.
 ghost use lib.ListN.{set};
 ghost use mathlib.Core.Path.{_≡_};
-ghost use Rattle.controller.specs.Effects.{added, adopting, applied, begun, counted, holds, inPhase, issuing, mergedIn, seated};
+ghost use Rattle.controller.specs.Effects.{added, adopting, applied, begun, counted, holds, inPhase, issuing, mergedIn};
 use crate::merge::merge_readings;
 use crate::merge::run_bit;
 use crate::state::Controller;
@@ -16,6 +16,7 @@ use units::StateLabel;
 use vote::Ballot;
 use vote::Digest;
 use vote::Seat;
+use vote::put_vote;
 
 // One reading at its run; past the last run nothing.
 fn put_reading(readings: [u32; 16], run: usize, raw: u32) -> [u32; 16]
@@ -24,19 +25,6 @@ fn put_reading(readings: [u32; 16], run: usize, raw: u32) -> [u32; 16]
     let mut next = readings;
     if run < Controller::RUNS {
         next[run] = raw;
-    }
-    next
-}
-
-// One vote at its seat; past the last seat nothing.
-pub fn put_vote(votes: [Seat; 7], seat: usize, digest: Digest) -> [Seat; 7]
-    ensures { λ r. ⌜ r ≡ seated votes seat digest ⌝ }
-{
-    let mut next = votes;
-    if seat < Controller::CONTROLLERS {
-        next[seat] = Seat {
-            ballot: Ballot::Cast(digest),
-        };
     }
     next
 }

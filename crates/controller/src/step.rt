@@ -3,7 +3,6 @@ ghost use mathlib.Core.Path.{_≡_};
 ghost use lib.ListN.{getD};
 ghost use Rattle.floats.specs.Ranges.{sameState};
 ghost use Rattle.controller.specs.Step.{carriedOut, clashing, decided, inputsFit, judgedIn, judgedPlan, planned, readingChange, stepped};
-use crate::apply::put_vote;
 use crate::merge::readings_agree;
 use crate::state::Controller;
 use floats::same::same_state;
@@ -25,6 +24,7 @@ use vote::Decision;
 use vote::Digest;
 use vote::Votes;
 use vote::decide;
+use vote::put_vote;
 
 // The next controller, what is sent (first, then second, with no gap), and what the step says.
 pub struct Answer {

@@ -17,11 +17,12 @@ use Rattle.units.specs.Labels.{roundFits}
 use Rattle.units.specs.Limits.{controllersTop, rawTop}
 use Rattle.units.specs.Mask.{inMask}
 use Rattle.units.proofs.Every.{and-left, and-right, every-at}
-use Rattle.units.proofs.Masks.{no-run}
+use Rattle.units.proofs.Masks.{no-run, in-and, in-or}
 use Rattle.vote.specs.declared.digest.Digest.{Digest}
 use Rattle.vote.specs.declared.votes.Ballot.{Ballot}
 use Rattle.vote.specs.declared.votes.Ballot.the-variants.{Missing, Cast}
 use Rattle.vote.specs.declared.votes.Seat.{Seat}
+use Rattle.vote.specs.Vote.{nobody, seated}
 use Rattle.message.specs.declared.head.Head.{Head}
 use Rattle.message.specs.declared.head.Head.the-variants.{Reading, Reply, Vote, Setpoints, Floor}
 use Rattle.message.specs.declared.value.Message.{Message}
@@ -38,10 +39,10 @@ use Rattle.plan.specs.Plan.{afterwards}
 use Rattle.plan.specs.Votes.{ownDigest}
 use Rattle.controller.specs.declared.state.Controller.{Controller}
 use Rattle.controller.specs.declared.step.Answer.{Answer}
-use Rattle.controller.specs.State.{briefOf, nobody, ballotAt, cast}
+use Rattle.controller.specs.State.{briefOf, ballotAt, cast}
 use Rattle.controller.specs.Start.{startOf}
 use Rattle.controller.specs.Merge.{runBit, agreePlace, agreeAt, agrees, mergedAt, merged}
-use Rattle.controller.specs.Effects.{seated, applied}
+use Rattle.controller.specs.Effects.{applied}
 use Rattle.controller.specs.Step.{clashing, carriedOut, stepped}
 use Rattle.controller_laws.specs.Changes.{NoStart, ReadingFrom, VoteFrom}
 use Rattle.controller_laws.specs.Changes.ReadingFrom.{was-held, by-reading, by-reply}
@@ -54,7 +55,7 @@ use Rattle.controller_laws.specs.Ways.Leads.{refused, unchanged, begins,
 use Rattle.controller_laws.specs.Ways.Goes.{out, led}
 use Rattle.controller_laws.proofs.Fits.{inputs}
 use Rattle.controller_laws.proofs.Held.{merged-place}
-use Rattle.controller_laws.proofs.Masks.{in-and, in-or, not-in-run}
+use Rattle.controller_laws.proofs.Masks.{not-in-run}
 use Rattle.controller_laws.proofs.Rises.{same-effect}
 use Rattle.controller_laws.proofs.Valid.{sized, Own, phase-own, Valid}
 use Rattle.controller_laws.proofs.Ways.{goes}

@@ -23,7 +23,8 @@ use Rattle.units.specs.Mask.{maskEnd, maskFits}
 use Rattle.units.specs.Pick.{pick}
 use Rattle.units.specs.Settings.{groupFits, numbersFit}
 use Rattle.units.proofs.Every.{and-left, and-right, and-three}
-use Rattle.units.proofs.Masks.{some-mask}
+use Rattle.units.proofs.Masks.{some-mask, or-above, or-below}
+use Rattle.units.proofs.Tab.{length-tab, getD-tab}
 use Rattle.floats.specs.Ranges.{estimateFits, noEstimate, stateFits, targetsFit}
 use Rattle.floats.proofs.Limits.{whole-range, nought-range}
 use Rattle.floats.proofs.Places.{estimate-made, state-made}
@@ -31,9 +32,9 @@ use Rattle.vote.specs.declared.digest.Digest.{Digest}
 use Rattle.vote.specs.declared.votes.Ballot.the-variants.{Cast}
 use Rattle.vote.specs.declared.votes.Seat.{Seat}
 use Rattle.vote.specs.Digest.{legal}
-use Rattle.filter.specs.Compute.{computed}
+use Rattle.vote.specs.Vote.{nobody, seated}
+use Rattle.vote.proofs.InRange.{seats-length, seated-fit, unseated-fit}
 use Rattle.filter.proofs.Laws.{state-range}
-use Rattle.filter.proofs.Tab.{length-tab, getD-tab}
 use Rattle.message.specs.declared.head.Head.{Head}
 use Rattle.message.specs.declared.head.Head.the-variants.{Reading, Update, Reply}
 use Rattle.message.specs.declared.value.Message.{Message}
@@ -50,10 +51,10 @@ use Rattle.plan.specs.Plan.{afterwards}
 use Rattle.plan.specs.Votes.{ownDigest}
 use Rattle.controller.specs.declared.state.Controller.{Controller}
 use Rattle.controller.specs.declared.step.Answer.{Answer}
-use Rattle.controller.specs.State.{briefOf, nobody, ballotAt, cast, controllerFits}
+use Rattle.controller.specs.State.{briefOf, ballotAt, cast, controllerFits}
 use Rattle.controller.specs.Start.{startAt, startEstimates, startOf, started}
 use Rattle.controller.specs.Merge.{runBit, merged}
-use Rattle.controller.specs.Effects.{inPhase, begun, added, mergedIn, adopting, seated, counted, issuing, applied}
+use Rattle.controller.specs.Effects.{inPhase, begun, added, mergedIn, adopting, counted, issuing, applied}
 use Rattle.controller.specs.Step.{inputsFit, stepped}
 use Rattle.controller_laws.specs.Phases.{Busy}
 use Rattle.controller_laws.specs.Ways.{Votes, Leads, Goes}
@@ -61,8 +62,8 @@ use Rattle.controller_laws.specs.Ways.Votes.{another's, ours}
 use Rattle.controller_laws.specs.Ways.Leads.{refused, unchanged, begins, adds, replies, merges, updates, adopts-idle, adopts-before, adopts-past, asks, adverts, asks-and-adverts, collected, lapses, counts, open-still, behind, lacking, issues, restarts}
 use Rattle.controller_laws.specs.Ways.Goes.{out, led}
 use Rattle.controller_laws.proofs.Held.{more-fit, merged-fit}
-use Rattle.controller_laws.proofs.Masks.{run-bit-low, run-bit-below, or-above, or-below}
-use Rattle.controller_laws.proofs.Valid.{five, sized, first-high, legal-facts, legal-made, seats-length, seated-fit, unseated-fit, unseated, Own, phase-legal, phase-own, phase-made, Valid, valid-facts, valid-made}
+use Rattle.controller_laws.proofs.Masks.{run-bit-low, run-bit-below}
+use Rattle.controller_laws.proofs.Valid.{five, sized, first-high, legal-facts, legal-made, unseated, Own, phase-legal, phase-own, phase-made, Valid, valid-facts, valid-made}
 use Rattle.controller_laws.proofs.Ways.{goes}
 
 -- ---- a start
@@ -244,7 +245,6 @@ module _ (s : Numbers) (c : Controller) (fit : numbersFit s ≡ true) (v : Valid
       }
 
   issuing-valid : (seat : ℕ) (digest chosen : Digest) → seat < s .group .g → legal m (c .label) digest ≡ true → Valid s (issuing s (counted c seat digest Idle) chosen)
-  unfolding computed
   issuing-valid seat digest chosen l k =
       record {
         own = v .own;

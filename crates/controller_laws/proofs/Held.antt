@@ -13,11 +13,12 @@ use lib.Seq.{getD-set-same, getD-set-other}
 use borrow.Author.Tests.{le-leb}
 use Rattle.units.specs.Limits.{rawTop}
 use Rattle.units.specs.Mask.{inMask}
-use Rattle.filter.proofs.Tab.{length-tab, getD-tab}
+use Rattle.units.proofs.Tab.{length-tab, getD-tab}
+use Rattle.units.proofs.Masks.{in-and, in-or}
 use Rattle.message.specs.Readings.{readingPlace, readingAt, readingsFit}
 use Rattle.message.proofs.Ranges.{readings-length, readings-place, readings-made}
 use Rattle.controller.specs.Merge.{runBit, mergedAt, merged, selected}
-use Rattle.controller_laws.proofs.Masks.{in-and, in-or, in-run, not-in-run}
+use Rattle.controller_laws.proofs.Masks.{in-run, not-in-run}
 
 -- a place is in range by what it holds and by whether it is in the mask
 placed : {t u : Bool} {x y : ℕ} → t ≡ u → x ≡ y → readingPlace u y ≡ true → readingPlace t x ≡ true

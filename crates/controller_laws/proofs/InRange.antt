@@ -28,7 +28,7 @@ use Rattle.vote.specs.declared.votes.Ballot.{Ballot}
 use Rattle.vote.specs.declared.votes.Ballot.the-variants.{Missing, Cast}
 use Rattle.vote.specs.declared.votes.Seat.{Seat}
 use Rattle.vote.specs.Digest.{legal}
-use Rattle.vote.specs.Vote.{seatFits, seatAt, seatsFit}
+use Rattle.vote.specs.Vote.{seatFits, seatAt, seatsFit, nobody}
 use Rattle.message.specs.declared.head.Head.{Head}
 use Rattle.message.specs.declared.value.Message.{Message}
 use Rattle.message.specs.Message.{messageFits}
@@ -41,7 +41,7 @@ use Rattle.plan.specs.Votes.{ownDigest}
 use Rattle.controller.specs.declared.state.Controller.{Controller}
 use Rattle.controller.specs.declared.step.Answer.{Answer}
 use Rattle.controller.specs.Start.{started}
-use Rattle.controller.specs.State.{briefOf, nobody, ballotAt, cast, controllerFits}
+use Rattle.controller.specs.State.{briefOf, ballotAt, cast, controllerFits}
 use Rattle.controller.specs.Step.{inputsFit, stepped}
 use Rattle.controller_laws.specs.Endings.{refusedOnly}
 use Rattle.controller_laws.specs.InRange.{LegalFor, ControllerInRange, InputsInRange, StartInRange}
@@ -49,7 +49,8 @@ use Rattle.controller_laws.specs.Phases.{Busy, Early}
 use Rattle.controller_laws.specs.Reasons.{Refuses}
 use Rattle.controller_laws.specs.Reasons.Refuses.{is-unknown, is-own, is-late, is-other, is-closed, is-clash}
 use Rattle.controller_laws.proofs.Refusals.{refused-for}
-use Rattle.controller_laws.proofs.Valid.{sized, Lawful, legal-facts, legal-made, seats-length, seats-place, seats-made, Own, phase-legal, phase-own, phase-made, Valid, valid-facts, valid-made}
+use Rattle.vote.proofs.InRange.{seats-length, seats-place, seats-made}
+use Rattle.controller_laws.proofs.Valid.{sized, Lawful, legal-facts, legal-made, Own, phase-legal, phase-own, phase-made, Valid, valid-facts, valid-made}
 
 -- another number than 6
 no-range : {why : Refusal} → eqb (numberOf why) 6 ≡ false → why ≡ Range → ⊥

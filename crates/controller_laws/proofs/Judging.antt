@@ -22,7 +22,7 @@ use Rattle.vote.specs.declared.judge.Decision.the-variants.{Undecided, Decided,
 use Rattle.vote.specs.declared.votes.Ballot.the-variants.{Cast}
 use Rattle.vote.specs.declared.votes.Seat.{Seat}
 use Rattle.vote.specs.Digest.{legal}
-use Rattle.vote.specs.Vote.{votesFit, Decides, Answers}
+use Rattle.vote.specs.Vote.{votesFit, Decides, Answers, nobody, seated}
 use Rattle.vote.specs.Decision.{decision}
 use Rattle.vote.proofs.Answer.{decision-exact, decided-one}
 use Rattle.message.specs.declared.head.Head.{Head}
@@ -40,8 +40,8 @@ use Rattle.plan.specs.Plan.{does, afterwards}
 use Rattle.plan.specs.Votes.{chosenPlan, judged, possessed}
 use Rattle.controller.specs.declared.state.Controller.{Controller}
 use Rattle.controller.specs.declared.step.Answer.{Answer}
-use Rattle.controller.specs.State.{briefOf, nobody, ballotAt}
-use Rattle.controller.specs.Effects.{applied, counted, issuing, seated}
+use Rattle.controller.specs.State.{briefOf, ballotAt}
+use Rattle.controller.specs.Effects.{applied, counted, issuing}
 use Rattle.controller.specs.Step.{decided, votesWith, judgedIn, judgedPlan, votePlan, planned, inputsFit, carriedOut, stepped}
 use Rattle.controller_laws.specs.Endings.{endedWith}
 use Rattle.controller_laws.specs.Judging.{IssuedFor, Judged}
@@ -55,7 +55,9 @@ use Rattle.controller_laws.proofs.Never.{decided-before}
 use Rattle.controller_laws.proofs.OneWay.{free-vote, goes-one}
 use Rattle.controller_laws.proofs.Rises.{same-effect}
 use Rattle.controller_laws.proofs.Sendings.{round}
-use Rattle.controller_laws.proofs.Valid.{group-fits, sized, seated-fit, seats-length}
+use Rattle.units.proofs.InRange.{group-fits}
+use Rattle.vote.proofs.InRange.{seated-fit, seats-length}
+use Rattle.controller_laws.proofs.Valid.{sized}
 use Rattle.controller_laws.proofs.Ways.{on-pick}
 
 never : {A : Type 0} (b : Bool) → b ≡ true → b ≡ false → A

@@ -8,7 +8,6 @@ pub mod Valid
 pub mod InRange
 pub mod Fits
 pub mod Refusals
-pub mod Decided
 pub mod Never
 pub mod Sendings
 pub mod Telling

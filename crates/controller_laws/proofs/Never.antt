@@ -15,6 +15,7 @@ use Rattle.units.proofs.Every.{and-right}
 use Rattle.vote.specs.declared.digest.Digest.{Digest}
 use Rattle.vote.specs.declared.judge.Decision.the-variants.{Decided}
 use Rattle.vote.specs.Digest.{legal}
+use Rattle.vote.proofs.Decided.{decided-legal}
 use Rattle.message.specs.declared.head.Head.{Head}
 use Rattle.message.specs.declared.value.Message.{Message}
 use Rattle.plan.specs.declared.planned.Effect.{Effect}
@@ -28,7 +29,6 @@ use Rattle.controller.specs.Step.{decided, votesWith, stepped}
 use Rattle.controller_laws.specs.Ways.{ends, Leads, Goes}
 use Rattle.controller_laws.specs.Ways.Leads.{refused, unchanged, begins, adds, replies, merges, updates, adopts-idle, adopts-before, adopts-past, asks, adverts, asks-and-adverts, collected, lapses, counts, open-still, behind, lacking, issues, restarts}
 use Rattle.controller_laws.specs.Ways.Goes.{out, led}
-use Rattle.controller_laws.proofs.Decided.{decided-legal}
 use Rattle.controller_laws.proofs.Ways.{refuses-keeps, goes}
 
 -- a verdict with another number

@@ -15,10 +15,12 @@ use Rattle.units.specs.Mask.{maskEnd}
 use Rattle.units.specs.Settings.{groupFits, numbersFit}
 use Rattle.units.proofs.Masks.{some-mask}
 use Rattle.units.proofs.Every.{and-both, no-way}
+use Rattle.units.proofs.InRange.{group-fits}
 use Rattle.floats.specs.Ranges.{stateFits, targetsFit}
 use Rattle.vote.specs.declared.digest.Digest.{Digest}
 use Rattle.vote.specs.declared.judge.Decision.the-variants.{Decided}
-use Rattle.filter.specs.Compute.{newTotal, setPoints, computed}
+use Rattle.vote.proofs.Decided.{decided-legal}
+use Rattle.filter.specs.Compute.{setPoints}
 use Rattle.filter.proofs.Laws.{given-range}
 use Rattle.message.specs.declared.head.Head.{Head}
 use Rattle.message.specs.declared.head.Head.the-variants.{Reading, Query, Reply, Advert, Update, Vote, Setpoints, Due, CollectingEnds, VotingEnds, Floor, Start, Refused}
@@ -49,10 +51,9 @@ use Rattle.controller_laws.specs.Ways.{Votes, Leads, Goes}
 use Rattle.controller_laws.specs.Ways.Votes.{another's, ours}
 use Rattle.controller_laws.specs.Ways.Leads.{refused, unchanged, begins, adds, replies, merges, updates, adopts-idle, adopts-before, adopts-past, asks, adverts, asks-and-adverts, collected, lapses, counts, open-still, behind, lacking, issues, restarts}
 use Rattle.controller_laws.specs.Ways.Goes.{out, led}
-use Rattle.controller_laws.proofs.Decided.{decided-legal}
 use Rattle.controller_laws.proofs.Fits.{own-legal, inputs}
 use Rattle.controller_laws.proofs.Held.{selected-fit}
-use Rattle.controller_laws.proofs.Valid.{group-fits, legal-facts, Valid}
+use Rattle.controller_laws.proofs.Valid.{legal-facts, Valid}
 use Rattle.controller_laws.proofs.Ways.{goes}
 
 -- ---- a plain kind is sent as its head alone
@@ -130,7 +131,7 @@ module _ (s : Numbers) (c : Controller) (fit : numbersFit s ≡ true) (v : Valid
 
   setpoints-ready : (seat : ℕ) (digest chosen : Digest) → Busy (c .phase) → decided s c seat digest ≡ Decided chosen
       → Ready (issuing s (counted c seat digest Idle) chosen) (Setpoints (c .own) (c .label) chosen)
-  unfolding sentMessage headFits carried plain computed newTotal setPoints
+  unfolding sentMessage headFits carried plain
   setpoints-ready seat digest chosen b d =
       message-made (s .group) (withTargets (Setpoints (c .own) (c .label) chosen) (setPoints s (issuing s (counted c seat digest Idle) chosen .estimates))) (group-fits s fit)
       (and-both (sender _ (round b)) (decided-legal (votesWith s c seat digest) chosen d)) none-fit unused-estimates

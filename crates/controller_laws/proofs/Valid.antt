@@ -16,24 +16,23 @@ use Rattle.units.specs.declared.settings.Numbers.{Numbers}
 use Rattle.units.specs.Labels.{before, floorFits, stateLabelFits}
 use Rattle.units.specs.Limits.{controllersTop, runsTop, labelTop, noiseTop, firstTop}
 use Rattle.units.specs.Mask.{maskEnd, maskFits}
-use Rattle.units.specs.Settings.{groupFits, numbersFit, runsFit}
-use Rattle.units.specs.Within.{within}
-use Rattle.units.proofs.Every.{and-left, and-right, every-at, every-all, and-both}
+use Rattle.units.specs.Settings.{numbersFit}
+use Rattle.units.proofs.Every.{and-left, and-right, and-both}
+use Rattle.units.proofs.InRange.{numbers-range}
 use Rattle.floats.specs.Ranges.{stateFits}
 use Rattle.vote.specs.declared.digest.Digest.{Digest}
 use Rattle.vote.specs.declared.votes.Ballot.{Ballot}
 use Rattle.vote.specs.declared.votes.Ballot.the-variants.{Cast}
 use Rattle.vote.specs.declared.votes.Seat.{Seat}
 use Rattle.vote.specs.Digest.{legal}
-use Rattle.vote.specs.Vote.{seatFits, seatAt, seatsFit}
+use Rattle.vote.specs.Vote.{nobody, seatsFit}
 use Rattle.message.specs.Readings.{readingsFit}
 use Rattle.plan.specs.declared.brief.Brief.{Brief}
 use Rattle.plan.specs.declared.brief.Phase.{Phase}
 use Rattle.plan.specs.declared.brief.Phase.the-variants.{Idle, Collecting, Pending, Voting}
 use Rattle.plan.specs.Votes.{ownDigest}
 use Rattle.controller.specs.declared.state.Controller.{Controller}
-use Rattle.controller.specs.State.{briefOf, nobody, ballotAt, cast, phaseFits, controllerFits}
-use Rattle.controller.specs.Effects.{seated}
+use Rattle.controller.specs.State.{briefOf, ballotAt, cast, phaseFits, controllerFits}
 use Rattle.controller_laws.specs.Phases.{Busy}
 
 pub five : (a b c d e : Bool) → (a && b && c && d && e) ≡ true → (a ≡ true) × (b ≡ true) × (c ≡ true) × (d ≡ true) × (e ≡ true)
@@ -57,25 +56,11 @@ pub record Sized (s : Group) : Type 0 where
   pub m-high : s .m ≤ runsTop
 
 module _ (s : Numbers) (h : numbersFit s ≡ true) where
-  first : (groupFits (s .group) && (within 1 noiseTop (s .q) && within 1 noiseTop (s .r)) && within 1 firstTop (s .p)) ≡ true
-  unfolding numbersFit
-  first = and-left (groupFits (s .group) && (within 1 noiseTop (s .q) && within 1 noiseTop (s .r)) && within 1 firstTop (s .p)) (runsFit s) h
-
-  pub group-fits : groupFits (s .group) ≡ true
-  group-fits = and-left (groupFits (s .group)) _ (and-left (groupFits (s .group) && (within 1 noiseTop (s .q) && within 1 noiseTop (s .r))) _ first)
-
   pub first-high : s .p ≤ firstTop
-  first-high = leb-true _ _ (and-right (leb 1 (s .p)) _ (and-right (groupFits (s .group) && (within 1 noiseTop (s .q) && within 1 noiseTop (s .r))) _ first))
+  first-high = numbers-range s h .p .1
 
   pub sized : Sized (s .group)
-  unfolding groupFits
-  sized =
-      let l = and-left (within 1 controllersTop (s .group .g)) (within 1 runsTop (s .group .m)) group-fits in
-      let r = and-right (within 1 controllersTop (s .group .g)) (within 1 runsTop (s .group .m)) group-fits in
-      record {
-        g-high = leb-true _ _ (and-right (leb 1 (s .group .g)) _ l);
-        m-high = leb-true _ _ (and-right (leb 1 (s .group .m)) _ r);
-      }
+  sized = let f = numbers-range s h in record { g-high = f .controllers .1; m-high = f .runs .1 }
 
 -- ---- a digest
 pub record Lawful (m : ℕ) (label : RoundLabel) (d : Digest) : Type 0 where
@@ -100,41 +85,6 @@ module _ (m : ℕ) (label : RoundLabel) (d : Digest) where
       and-both (and-both (le-leb m runsTop k) (and-both (le-leb 1 (d .mask) (f .some-run)) (lt-ltb (d .mask) (maskEnd m) (f .own-runs)))) (lt-ltb (d .state .0) (label .0) (f .older))
 
 -- ---- seats
-module _ (s : Group) (label : RoundLabel) (votes : List Seat) where
-  pub seats-length : seatsFit s label votes ≡ true → length votes ≡ 7
-  unfolding seatsFit
-  seats-length h = eqb-true _ _ (and-left (eqb (length votes) 7) _ h)
-
-  pub seats-place : seatsFit s label votes ≡ true → (i : ℕ) → i < 7 → seatAt s label votes i ≡ true
-  unfolding seatsFit
-  seats-place h i k = every-at (seatAt s label votes) 7 i (and-right (eqb (length votes) 7) _ h) k
-
-  pub seats-made : length votes ≡ 7 → ((i : ℕ) → i < 7 → seatAt s label votes i ≡ true) → seatsFit s label votes ≡ true
-  unfolding seatsFit
-  seats-made e f = and-both (eq-eqb (length votes) 7 e) (every-all (seatAt s label votes) 7 f)
-
-  -- one vote more
-  pub seated-fit : seatsFit s label votes ≡ true → (seat : ℕ) (d : Digest) → seat < s .g → s .g ≤ 7 → legal (s .m) label d ≡ true → seatsFit s label (seated votes seat d) ≡ true
-  unfolding seatFits seatsFit
-  seated-fit h seat d l k q = and-both (eq-eqb (length (seated votes seat d)) 7 (length-set votes seat (record { ballot = Cast d }) ∙ seats-length h)) (every-all (seatAt s label (seated votes seat d)) 7 place)
-    where
-      here : seatAt s label (seated votes seat d) seat ≡ true
-      here =
-          ap (λ (v : Seat). seatFits (ltb seat (s .g)) (s .m) label (v .ballot)) (getD-set-same votes seat (record { ballot = Cast d }) nobody (omega (arith, seats-length h)))
-          ∙ and-both (lt-ltb seat (s .g) l) q
-
-      place : (i : ℕ) → i < 7 → seatAt s label (seated votes seat d) i ≡ true
-      place i b =
-          by-cases (ℕ-discrete i seat) (λ e. subst (λ (j : ℕ). seatAt s label (seated votes seat d) j ≡ true) (sym e) here)
-          (λ n. ap (λ (v : Seat). seatFits (ltb i (s .g)) (s .m) label (v .ballot)) (getD-set-other votes seat i (record { ballot = Cast d }) nobody n) ∙ seats-place h i b)
-
--- no vote
-pub unseated-fit : (s : Group) (label : RoundLabel) → seatsFit s label (replicate controllersTop nobody) ≡ true
-unfolding seatFits
-unseated-fit s label =
-    seats-made s label (replicate controllersTop nobody) refl
-    (λ i k. ap (λ (v : Seat). seatFits (ltb i (s .g)) (s .m) label (v .ballot)) (getD-replicate 7 i nobody nobody k))
-
 pub unseated : (i : ℕ) → i < 7 → cast (getD (replicate controllersTop nobody) i nobody .ballot) ≡ false
 unseated i k = ap (λ (v : Seat). cast (v .ballot)) (getD-replicate 7 i nobody nobody k)
 

@@ -19,17 +19,18 @@ use Rattle.units.specs.Labels.{correction}
 use Rattle.units.specs.Limits.{xTop, varianceTop, targetTop, weightTop}
 use Rattle.units.specs.Mask.{inMask}
 use Rattle.units.specs.Settings.{numbersFit}
+use Rattle.units.specs.Tab.{tab}
+use Rattle.units.proofs.InRange.{numbers-range}
 use Rattle.floats.specs.Bits.{nought}
 use Rattle.floats.specs.Ranges.{upTo, estimateFits, noEstimate, stateFits, targetsFit}
 use Rattle.floats.proofs.Limits.{nought-range}
 use Rattle.floats.proofs.Places.{estimate-x, estimate-made, state-run, state-blank, state-made, targets-made}
 use Rattle.filter.specs.Run.{atMost, grown, moved, shrunk, outcome, after}
-use Rattle.filter.specs.Step.{tab, place, stepAt, stepped}
+use Rattle.filter.specs.Runs.{place, runAfter, runsAfter}
 use Rattle.filter.specs.Share.{addAll, total, sumOf, weightSum, share, shared, targets}
-use Rattle.filter.specs.Compute.{newState, newTotal, computed}
-use Rattle.filter.proofs.Tab.{length-tab, getD-tab}
+use Rattle.filter.specs.Compute.{newState, setPoints, computed}
+use Rattle.units.proofs.Tab.{length-tab, getD-tab, tab-same}
 use Rattle.filter.proofs.Rounding.{range-mono, add-range, limited-range, target-range}
-use Rattle.filter.proofs.Numbers.{runs-range, weight-range}
 
 -- ---- one run
 grown-fits : (p : Float) (n q : ℕ) → T (fits binary64 (grown p n q))
@@ -52,44 +53,39 @@ place-same true e n q r b raw raw' factor h = ap (after e) (outcome-same e n q r
 place-same false e n q r b raw raw' factor h = refl
 
 -- ---- all runs
-tab-same : {A : Type 0} (f g : ℕ → A) (i k : ℕ) → ((j : ℕ) → f j ≡ g j) → tab f i k ≡ tab g i k
-unfolding tab
-tab-same f g i zero h = refl
-tab-same f g i (suc k) h = λ t. h i t ∷ tab-same f g (suc i) k h t
-
 module _ (state : List Estimate) (n : ℕ) (s : Numbers) (chosen : ℕ) (readings : List ℕ) where
-  stepped-at : (i : ℕ) → i < 16 → getD (stepped state n s chosen readings) i noEstimate ≡ stepAt state n s chosen readings i
-  unfolding stepped
-  stepped-at i b = getD-tab (stepAt state n s chosen readings) noEstimate 0 16 i b ∙ ap (stepAt state n s chosen readings) (zero-add i)
+  runs-at : (i : ℕ) → i < 16 → getD (runsAfter state n s chosen readings) i noEstimate ≡ runAfter state n s chosen readings i
+  unfolding runsAfter
+  runs-at i b = getD-tab (runAfter state n s chosen readings) noEstimate 0 16 i b ∙ ap (runAfter state n s chosen readings) (zero-add i)
 
-  stepped-stays : (i : ℕ) → s .group .m ≤ i → i < 16 → getD (stepped state n s chosen readings) i noEstimate ≡ getD state i noEstimate
+  runs-stays : (i : ℕ) → s .group .m ≤ i → i < 16 → getD (runsAfter state n s chosen readings) i noEstimate ≡ getD state i noEstimate
   unfolding place
-  stepped-stays i l b =
-      stepped-at i b
+  runs-stays i l b =
+      runs-at i b
       ∙ ap (λ (u : Bool). place u (getD state i noEstimate) n (s .q) (s .r) (inMask chosen i) (getD readings i 0) (getD (s .factors) i 0)) (le-ltb i (s .group .m) l)
 
-  stepped-runs : (i : ℕ) → i < s .group .m → i < 16 → estimateFits (getD state i noEstimate) ≡ true → estimateFits (getD (stepped state n s chosen readings) i noEstimate) ≡ true
+  runs-runs : (i : ℕ) → i < s .group .m → i < 16 → estimateFits (getD state i noEstimate) ≡ true → estimateFits (getD (runsAfter state n s chosen readings) i noEstimate) ≡ true
   unfolding place
-  stepped-runs i l b h =
+  runs-runs i l b h =
       ap estimateFits
-      (stepped-at i b
+      (runs-at i b
       ∙ ap (λ (u : Bool). place u (getD state i noEstimate) n (s .q) (s .r) (inMask chosen i) (getD readings i 0) (getD (s .factors) i 0)) (lt-ltb i (s .group .m) l))
       ∙ outcome-fits (getD state i noEstimate) n (s .q) (s .r) (inMask chosen i) (getD readings i 0) (getD (s .factors) i 0) h
 
-  stepped-length : length (stepped state n s chosen readings) ≡ 16
-  unfolding stepped
-  stepped-length = length-tab (stepAt state n s chosen readings) 0 16
+  runs-length : length (runsAfter state n s chosen readings) ≡ 16
+  unfolding runsAfter
+  runs-length = length-tab (runAfter state n s chosen readings) 0 16
 
-  stepped-fits : stateFits (s .group .m) state ≡ true → stateFits (s .group .m) (stepped state n s chosen readings) ≡ true
-  stepped-fits h =
-      state-made (s .group .m) (stepped state n s chosen readings) stepped-length
-      (λ i l b. stepped-runs i l b (state-run (s .group .m) state i h l b))
-      (λ i l b. stepped-stays i l b ∙ state-blank (s .group .m) state i h l b)
+  runs-fits : stateFits (s .group .m) state ≡ true → stateFits (s .group .m) (runsAfter state n s chosen readings) ≡ true
+  runs-fits h =
+      state-made (s .group .m) (runsAfter state n s chosen readings) runs-length
+      (λ i l b. runs-runs i l b (state-run (s .group .m) state i h l b))
+      (λ i l b. runs-stays i l b ∙ state-blank (s .group .m) state i h l b)
 
-  stepped-same : (other : List ℕ) → ((i : ℕ) → i < s .group .m → inMask chosen i ≡ true → getD readings i 0 ≡ getD other i 0) → stepped state n s chosen readings ≡ stepped state n s chosen other
-  unfolding stepped
-  stepped-same other h =
-      tab-same (stepAt state n s chosen readings) (stepAt state n s chosen other) 0 16
+  runs-same : (other : List ℕ) → ((i : ℕ) → i < s .group .m → inMask chosen i ≡ true → getD readings i 0 ≡ getD other i 0) → runsAfter state n s chosen readings ≡ runsAfter state n s chosen other
+  unfolding runsAfter
+  runs-same other h =
+      tab-same (runAfter state n s chosen readings) (runAfter state n s chosen other) 0 16
       (λ i. place-same (ltb i (s .group .m)) (getD state i noEstimate) n (s .q) (s .r) (inMask chosen i) (getD readings i 0) (getD other i 0) (getD (s .factors) i 0) (λ u. h i (ltb-true i (s .group .m) u)))
 
 -- ---- the total
@@ -140,14 +136,14 @@ module _ (s : Numbers) (h : numbersFit s ≡ true) where
   some : 0 < weightSum m (s .weights)
   unfolding weightSum
   some =
-      let M = runs-range s h .0 in
-      sum-pos (take m (s .weights)) (subst (λ (k : ℕ). 0 < k) (sym (getD-take m (s .weights) 0 0 M)) (weight-range s h 0 M (omega arith) .0))
+      let M = numbers-range s h .runs .0 in
+      sum-pos (take m (s .weights)) (subst (λ (k : ℕ). 0 < k) (sym (getD-take m (s .weights) 0 0 M)) (numbers-range s h .weight 0 M .0))
 
   few : weightSum m (s .weights) ≤ 2 ^ 53
   unfolding weightSum
   few =
-      let q = short m (length (s .weights)) (length (take m (s .weights))) (runs-range s h .1) (length-take m (s .weights)) in
-      let b = sum-le (take m (s .weights)) (λ i l. let k : i < m = omega arith in le-trans (le-of-eq (getD-take m (s .weights) i 0 k)) (weight-range s h i k (omega arith) .1)) in
+      let q = short m (length (s .weights)) (length (take m (s .weights))) (numbers-range s h .runs .1) (length-take m (s .weights)) in
+      let b = sum-le (take m (s .weights)) (λ i l. let k : i < m = omega arith in le-trans (le-of-eq (getD-take m (s .weights) i 0 k)) (numbers-range s h .weight i k .1)) in
       omega arith
 
   module _ (t : Float) where
@@ -164,32 +160,38 @@ module _ (s : Numbers) (h : numbersFit s ≡ true) where
     targets-range p =
         targets-made m (targets t s) targets-length
         (λ i l b. ap (upTo targetTop) (targets-at i b ∙ ap (λ (u : Bool). share u t (getD (s .weights) i 0) (weightSum m (s .weights))) (lt-ltb i m l))
-        ∙ target-range targetTop t (getD (s .weights) i 0) (weightSum m (s .weights)) (le-trans (weight-range s h i l b .1) (lit≤ tt)) few some p)
+        ∙ target-range targetTop t (getD (s .weights) i 0) (weightSum m (s .weights)) (le-trans (numbers-range s h .weight i l .1) (lit≤ tt)) few some p)
         (λ i l b. targets-at i b ∙ ap (λ (u : Bool). share u t (getD (s .weights) i 0) (weightSum m (s .weights))) (le-ltb i m l))
+
+-- the targets of a state in range
+set-points-range : (s : Numbers) (state : List Estimate) → numbersFit s ≡ true → stateFits (s .group .m) state ≡ true → targetsFit (s .group .m) (setPoints s state) ≡ true
+unfolding setPoints
+set-points-range s state f h = targets-range s f (total (s .group .m) state) (total-range (s .group .m) state (numbers-range s f .runs .1) h)
 
 -- ---- computing
 module _ (label : RoundLabel) (base : StateLabel) (state : List Estimate) (s : Numbers) (chosen : ℕ) (readings : List ℕ) where
+  abbrev next : List Estimate
+  next = newState label base state s chosen readings
+
   -- settings and a state in range give a state, a total and targets in range: no NaN, no -0, no infinity
-  pub state-range : stateFits (s .group .m) state ≡ true → stateFits (s .group .m) (computed label base state s chosen readings .state) ≡ true
-  unfolding computed newState
-  state-range h = stepped-fits state (correction label base) s chosen readings h
+  pub state-range : stateFits (s .group .m) state ≡ true → stateFits (s .group .m) next ≡ true
+  unfolding newState
+  state-range h = runs-fits state (correction label base) s chosen readings h
 
-  pub new-total-range : numbersFit s ≡ true → stateFits (s .group .m) state ≡ true → upTo targetTop (newTotal label base state s chosen readings) ≡ true
-  unfolding newTotal newState
-  new-total-range f h = total-range (s .group .m) (newState label base state s chosen readings) (runs-range s f .1) (stepped-fits state (correction label base) s chosen readings h)
+  pub new-total-range : numbersFit s ≡ true → stateFits (s .group .m) state ≡ true → upTo targetTop (total (s .group .m) next) ≡ true
+  new-total-range f h = total-range (s .group .m) next (numbers-range s f .runs .1) (state-range h)
 
-  pub given-range : numbersFit s ≡ true → stateFits (s .group .m) state ≡ true → targetsFit (s .group .m) (computed label base state s chosen readings .targets) ≡ true
-  unfolding computed
-  given-range f h = targets-range s f (newTotal label base state s chosen readings) (new-total-range f h)
+  pub given-range : numbersFit s ≡ true → stateFits (s .group .m) state ≡ true → targetsFit (s .group .m) (setPoints s next) ≡ true
+  given-range f h = set-points-range s next f (state-range h)
 
   -- only the readings of the chosen runs below m count
   pub computed-same : (other : List ℕ) → ((i : ℕ) → i < s .group .m → inMask chosen i ≡ true → getD readings i 0 ≡ getD other i 0) → computed label base state s chosen readings ≡ computed label base state s chosen other
-  unfolding computed newTotal newState
+  unfolding newState
   computed-same other h =
-      ap (λ (next : List Estimate). record { state = next; targets = targets (total (s .group .m) next) s })
-      (stepped-same state (correction label base) s chosen readings other h)
+      ap (λ (k : List Estimate). record { state = k; targets = setPoints s k })
+      (runs-same state (correction label base) s chosen readings other h)
 
   -- a place at m or above is as it was
-  pub computed-stays : (i : ℕ) → s .group .m ≤ i → i < 16 → getD (computed label base state s chosen readings .state) i noEstimate ≡ getD state i noEstimate
-  unfolding computed newState
-  computed-stays i l b = stepped-stays state (correction label base) s chosen readings i l b
+  pub computed-stays : (i : ℕ) → s .group .m ≤ i → i < 16 → getD next i noEstimate ≡ getD state i noEstimate
+  unfolding newState
+  computed-stays i l b = runs-stays state (correction label base) s chosen readings i l b

@@ -8,28 +8,23 @@ use Rattle.units.specs.declared.estimate.Estimate.{Estimate}
 use Rattle.units.specs.declared.settings.Numbers.{Numbers}
 use Rattle.units.specs.Labels.{correction}
 use Rattle.filter.specs.declared.compute.Computed.{Computed}
-use Rattle.filter.specs.Step.{stepped}
+use Rattle.filter.specs.Runs.{runsAfter}
 use Rattle.filter.specs.Share.{total, targets}
 
 -- "n = label - state label. For each run .."
 unfoldable pub newState : RoundLabel → StateLabel → List Estimate → Numbers → ℕ → List ℕ → List Estimate
-unfolding stepped
-newState label base state s chosen readings = stepped state (correction label base) s chosen readings
-
--- the total of the new state
-unfoldable pub newTotal : RoundLabel → StateLabel → List Estimate → Numbers → ℕ → List ℕ → Float
-unfolding newState total
-newTotal label base state s chosen readings = total (s .group .m) (newState label base state s chosen readings)
+unfolding runsAfter
+newState label base state s chosen readings = runsAfter state (correction label base) s chosen readings
 
 -- the targets that a state gives
 unfoldable pub setPoints : Numbers → List Estimate → List Float
 unfolding total targets
 setPoints s state = targets (total (s .group .m) state) s
 
-unfoldable pub computed : RoundLabel → StateLabel → List Estimate → Numbers → ℕ → List ℕ → Computed
-unfolding newState newTotal targets
+-- both halves: the state that the round leaves, and the targets of that state
+abbrev pub computed : RoundLabel → StateLabel → List Estimate → Numbers → ℕ → List ℕ → Computed
 computed label base state s chosen readings =
     record {
       state = newState label base state s chosen readings;
-      targets = targets (newTotal label base state s chosen readings) s;
+      targets = setPoints s (newState label base state s chosen readings);
     }

@@ -1,6 +1,7 @@
 -- The definitions of `filter`.
 pub mod Run
-pub mod Step
+pub mod Runs
 pub mod Share
 pub mod Compute
 pub mod Checked
+pub mod InRange

@@ -10,7 +10,7 @@ use Rattle.units.specs.declared.settings.Numbers.{Numbers}
 use Rattle.units.specs.Limits.{runsTop}
 use Rattle.floats.specs.Bits.{ofWhole, nought}
 use Rattle.filter.specs.Run.{atMost}
-use Rattle.filter.specs.Step.{tab}
+use Rattle.units.specs.Tab.{tab}
 
 -- x of each, onto t
 unfoldable pub addAll : Float → List Estimate → Float

@@ -27,7 +27,7 @@ fn reading_place(run: bool, raw: u32) -> bool
     if run { raw <= RAW_TOP } else { raw == 0 }
 }
 
-pub fn readings_in_range(m: usize, readings: [u32; 16]) -> bool
+pub(crate) fn readings_in_range(m: usize, readings: [u32; 16]) -> bool
     ensures { λ r. ⌜ r ≡ readingsFit m readings ⌝ }
 {
     let mut fit = true;

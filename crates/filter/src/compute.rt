@@ -1,9 +1,9 @@
 // What a decided round computes.
 ghost use mathlib.Core.Path.{_≡_};
 ghost use Rattle.filter.specs.Compute.{computed, newState, setPoints};
+use crate::runs::runs_after;
 use crate::share::targets_of;
 use crate::share::total_of;
-use crate::step::step;
 use units::Estimate;
 use units::Numbers;
 use units::RoundLabel;
@@ -26,7 +26,7 @@ pub fn state_after(
 ) -> [Estimate; 16]
     ensures { λ r. ⌜ r ≡ newState label base state numbers chosen readings ⌝ }
 {
-    step(state, label.since(base), numbers, chosen, readings)
+    runs_after(state, label.since(base), numbers, chosen, readings)
 }
 
 // The targets that a state gives.
@@ -37,7 +37,7 @@ pub fn targets_from(state: [Estimate; 16], numbers: Numbers) -> [f64; 16]
     targets_of(total_of(m, state), numbers)
 }
 
-pub fn compute(
+pub(crate) fn compute(
     label: RoundLabel,
     base: StateLabel,
     state: [Estimate; 16],

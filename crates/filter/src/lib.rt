@@ -3,8 +3,8 @@ pub mod checked;
 pub mod compute;
 pub mod hold;
 pub mod run;
+pub mod runs;
 pub mod share;
-pub mod step;
 
 pub use checked::Checked;
 pub use compute::Computed;

@@ -16,42 +16,50 @@ pub enum Outcome {
 }
 
 // P1, from P, n and q.
-pub fn grow(p: f64, n: u32, q: u32) -> f64
+pub(crate) fn grow(p: f64, n: u32, q: u32) -> f64
     ensures { λ s. ⌜ s ≡ grown p n q ⌝ }
 {
     at_most(VARIANCE_TOP, p + product(n, q))
 }
 
 // z, from a raw reading and its meter's factor.
-pub fn measure(raw: u32, factor: u32) -> f64
+pub(crate) fn measure(raw: u32, factor: u32) -> f64
     ensures { λ s. ⌜ s ≡ measured raw factor ⌝ }
 {
     product(raw, factor) / (FACTOR_SCALE as f64)
 }
 
 // k, from P1 and r.
-pub fn gain_of(p1: f64, r: u32) -> f64
+pub(crate) fn gain_of(p1: f64, r: u32) -> f64
     ensures { λ s. ⌜ s ≡ gain p1 r ⌝ }
 {
     p1 / (p1 + (r as f64))
 }
 
 // The new x, from x, k and z.
-pub fn move_by(x: f64, k: f64, z: f64) -> f64
+pub(crate) fn move_by(x: f64, k: f64, z: f64) -> f64
     ensures { λ s. ⌜ s ≡ moved x k z ⌝ }
 {
     hold(X_TOP, x + k * (z - x))
 }
 
 // The new P, from k and P1.
-pub fn shrink(k: f64, p1: f64) -> f64
+pub(crate) fn shrink(k: f64, p1: f64) -> f64
     ensures { λ s. ⌜ s ≡ shrunk k p1 ⌝ }
 {
     hold(VARIANCE_TOP, (1.0 - k) * p1)
 }
 
 // One run, n rounds after its state.
-pub fn run(e: Estimate, n: u32, q: u32, r: u32, chosen: bool, raw: u32, factor: u32) -> Outcome
+pub(crate) fn run(
+    e: Estimate,
+    n: u32,
+    q: u32,
+    r: u32,
+    chosen: bool,
+    raw: u32,
+    factor: u32,
+) -> Outcome
     ensures { λ s. ⌜ s ≡ outcome e n q r chosen raw factor ⌝ }
 {
     let p1 = grow(e.variance, n, q);
@@ -70,7 +78,7 @@ pub fn run(e: Estimate, n: u32, q: u32, r: u32, chosen: bool, raw: u32, factor: 
 }
 
 // What an outcome leaves of a run.
-pub fn settle(e: Estimate, o: Outcome) -> Estimate
+pub(crate) fn settle(e: Estimate, o: Outcome) -> Estimate
     ensures { λ s. ⌜ s ≡ after e o ⌝ }
 {
     match o {

@@ -8,7 +8,7 @@ use units::Numbers;
 use units::limits::RUNS;
 
 // The sum of x over the first m runs, from run 0 upward.
-pub fn total_of(m: usize, state: [Estimate; 16]) -> f64
+pub(crate) fn total_of(m: usize, state: [Estimate; 16]) -> f64
     ensures { λ t. ⌜ t ≡ total m state ⌝ }
 {
     let mut sum = 0.0;
@@ -48,7 +48,7 @@ fn weight_sum(m: usize, weights: [u32; 16]) -> u64
 }
 
 // A run's target: two roundings, or the total where the quotient exceeds it.
-pub fn target_of(total: f64, weight: u32, sum: u64) -> f64
+pub(crate) fn target_of(total: f64, weight: u32, sum: u64) -> f64
     ensures { λ r. ⌜ r ≡ target total weight sum ⌝ }
 {
     at_most(
@@ -69,7 +69,7 @@ fn share_of(used: bool, total: f64, weight: u32, sum: u64) -> f64
 }
 
 // All sixteen targets.
-pub fn targets_of(total: f64, numbers: Numbers) -> [f64; 16]
+pub(crate) fn targets_of(total: f64, numbers: Numbers) -> [f64; 16]
     ensures { λ r. ⌜ r ≡ targets total numbers ⌝ }
 {
     let m = numbers.group.m;

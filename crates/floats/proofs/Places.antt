@@ -18,6 +18,7 @@ use Rattle.units.specs.Every.{every}
 use Rattle.units.proofs.Every.{and-left, and-right, every-at, every-all, and-both}
 use Rattle.floats.specs.Bits.{nought, sameFloat}
 use Rattle.floats.specs.Ranges.{upTo, estimateFits, blank, noEstimate, sameEstimate, estimatePlace, stateAt, stateFits, targetPlace, targetAt, targetsFit, sameAt, sameState}
+use Rattle.floats.specs.InRange.{StateInRange, TargetsInRange}
 use Rattle.floats.proofs.Limits.{range-fits, same-is, same-self}
 
 nought-fits : fits binary64 nought ≡ true
@@ -79,6 +80,18 @@ state-made m s e run rest = and-both (eq-eqb (length s) 16 e) (every-all (stateA
         (λ l. let k : m ≤ i = omega arith in
         ap₂ estimatePlace (le-ltb i m k) (rest i k b) ∙ blank-self)
 
+-- IN RANGE EXACTLY WHEN each clause of document 01 holds
+pub state-exact : (m : ℕ) (s : List Estimate) → (stateFits m s ≡ true → StateInRange m s) × (StateInRange m s → stateFits m s ≡ true)
+state-exact m s = (
+  λ h. record {
+    sixteen = state-length m s h;
+    estimate = λ i l b. estimate-x (getD s i noEstimate) (state-run m s i h l b);
+    variance = λ i l b. estimate-variance (getD s i noEstimate) (state-run m s i h l b);
+    none = λ i l b. state-blank m s i h l b;
+  },
+  λ f. state-made m s (f .sixteen) (λ i l b. estimate-made (getD s i noEstimate) (f .estimate i l b) (f .variance i l b)) (f .none),
+)
+
 -- ---- the targets
 pub targets-length : (m : ℕ) (ts : List Float) → targetsFit m ts ≡ true → length ts ≡ 16
 unfolding targetsFit
@@ -104,6 +117,13 @@ targets-made m ts e run rest = and-both (eq-eqb (length ts) 16 e) (every-all (ta
         by-cases (decLt i m) (λ l. ap (λ (t : Bool). targetPlace t (getD ts i nan)) (lt-ltb i m l) ∙ run i l b)
         (λ l. let k : m ≤ i = omega arith in
         ap₂ targetPlace (le-ltb i m k) (rest i k b) ∙ same-self nought nought-fits)
+
+-- IN RANGE EXACTLY WHEN each clause of document 01 holds
+pub targets-exact : (m : ℕ) (ts : List Float) → (targetsFit m ts ≡ true → TargetsInRange m ts) × (TargetsInRange m ts → targetsFit m ts ≡ true)
+targets-exact m ts = (
+  λ h. record { sixteen = targets-length m ts h; target = λ i l b. targets-run m ts i h l b; none = λ i l b. targets-blank m ts i h l b },
+  λ f. targets-made m ts (f .sixteen) (f .target) (f .none),
+)
 
 -- ---- what the loops over the sixteen places find
 pub every-end : (f : ℕ → Bool) (fit : Bool) (i : ℕ) → fit ≡ every f i → i ≤ 16 → 16 ≤ i → fit ≡ every f 16

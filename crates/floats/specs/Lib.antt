@@ -1,3 +1,4 @@
 -- The definitions of `floats`.
 pub mod Bits
 pub mod Ranges
+pub mod InRange

@@ -11,8 +11,8 @@ use Rattle.vote.specs.Vote.{seatFits, seatsFit, votesFit}
 use Rattle.vote.specs.Vote as Ballots
 use Rattle.vote.specs.Decision.{tallyOf, strengthOf, largest, otherThan, outsider, missingOf, heldOff, rivalOf, settledAt, settled, decision, strongestAt, winning}
 use Rattle.filter.specs.Run.{atMost, limited, grown, measured, gain, moved, shrunk, outcome}
-use Rattle.filter.specs.Step.{tab, place}
-use Rattle.filter.specs.Step as Rounds
+use Rattle.units.specs.Tab.{tab}
+use Rattle.filter.specs.Runs.{place, runsAfter}
 use Rattle.filter.specs.Share.{addAll, total, sumOf, weightSum, target, share, targets}
 use Rattle.filter.specs.Compute.{newState, setPoints}
 use Rattle.message.specs.Head.{headFits, carried}
@@ -56,7 +56,7 @@ judge-computes = tt
 
 -- 'Computing'
 unfoldable pub filter-computes : Unit {0}
-unfolding atMost limited grown measured gain moved shrunk outcome tab place Rounds.stepped newState
+unfolding atMost limited grown measured gain moved shrunk outcome tab place runsAfter newState
 filter-computes = tt
 
 -- total and targets

@@ -15,15 +15,15 @@ use Rattle.units.specs.declared.labels.StateLabel.{StateLabel}
 use Rattle.units.specs.declared.settings.Numbers.{Numbers}
 use Rattle.units.specs.Mask.{inMask}
 use Rattle.units.proofs.Every.{and-left, and-right}
+use Rattle.units.proofs.Tab.{getD-tab}
+use Rattle.units.proofs.Masks.{in-and}
 use Rattle.vote.specs.declared.digest.Digest.{Digest}
 use Rattle.filter.specs.declared.compute.Computed.{Computed}
-use Rattle.filter.specs.Compute.{newState, newTotal, setPoints, computed}
+use Rattle.filter.specs.Compute.{newState, setPoints, computed}
 use Rattle.filter.proofs.Laws.{computed-same}
-use Rattle.filter.proofs.Tab.{getD-tab}
 use Rattle.plan.specs.Votes.{possessed}
 use Rattle.controller.specs.declared.state.Controller.{Controller}
 use Rattle.controller.specs.State.{briefOf}
-use Rattle.controller_laws.proofs.Masks.{in-and}
 use Rattle.controller_laws.proofs.Ways.{same-state}
 use Rattle.group.specs.Premises.{Meters}
 use Rattle.group.specs.Demand.{readingsOf}
@@ -31,16 +31,6 @@ use Rattle.group.specs.Demand.{readingsOf}
 reading-of : (meters : Meters) (label : RoundLabel) (i : ℕ) → i < 16 → getD (readingsOf meters label) i 0 ≡ meters label i
 unfolding readingsOf
 reading-of meters label i k = getD-tab (meters label) 0 0 16 i k ∙ ap (meters label) (zero-add i)
-
--- the two halves of computing
-module _ (l : RoundLabel) (b : StateLabel) (es : List Estimate) (s : Numbers) (mask : ℕ) (rs : List ℕ) where
-  state-half : computed l b es s mask rs .state ≡ newState l b es s mask rs
-  unfolding computed
-  state-half = refl
-
-  target-half : computed l b es s mask rs .targets ≡ setPoints s (newState l b es s mask rs)
-  unfolding computed newTotal setPoints
-  target-half = refl
 
 -- 13 is not given: the chosen runs are held, and the chosen state is the one that is here
 module _ (c : Controller) (d : Digest) (p : possessed (briefOf c) d ≡ true) where
@@ -63,8 +53,8 @@ module _ (c : Controller) (d : Digest) (p : possessed (briefOf c) d ≡ true) wh
         ∙ ap (λ (b : StateLabel). computed (c .label) b (c .estimates) s (d .mask) (readingsOf meters (c .label))) (sym chosen-state)
 
     pub issued-state : newState (c .label) (c .state) (c .estimates) s (d .mask) (c .readings) ≡ computed (c .label) (d .state) (c .estimates) s (d .mask) (readingsOf meters (c .label)) .state
-    issued-state = sym (state-half (c .label) (c .state) (c .estimates) s (d .mask) (c .readings)) ∙ ap (λ (x : Computed). x .state) same-computed
+    issued-state = ap (λ (x : Computed). x .state) same-computed
 
     pub issued-targets : setPoints s (newState (c .label) (c .state) (c .estimates) s (d .mask) (c .readings))
         ≡ computed (c .label) (d .state) (c .estimates) s (d .mask) (readingsOf meters (c .label)) .targets
-    issued-targets = sym (target-half (c .label) (c .state) (c .estimates) s (d .mask) (c .readings)) ∙ ap (λ (x : Computed). x .targets) same-computed
+    issued-targets = ap (λ (x : Computed). x .targets) same-computed

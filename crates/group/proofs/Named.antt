@@ -20,6 +20,7 @@ use Rattle.units.specs.Labels.{roundFits}
 use Rattle.units.specs.Limits.{rawTop}
 use Rattle.units.specs.Mask.{inMask}
 use Rattle.units.proofs.Every.{and-left, and-right, every-all}
+use Rattle.units.proofs.Masks.{in-and}
 use Rattle.floats.specs.Ranges.{sameState}
 use Rattle.floats.proofs.Places.{same-state-self}
 use Rattle.vote.specs.declared.digest.Digest.{Digest}
@@ -38,7 +39,6 @@ use Rattle.controller_laws.specs.Reasons.{Clashed}
 use Rattle.controller_laws.specs.Reasons.Clashed.{by-reading, by-reply, by-update, by-digest}
 use Rattle.controller_laws.proofs.Clashes.{clash-only}
 use Rattle.controller_laws.proofs.Fits.{inputs}
-use Rattle.controller_laws.proofs.Masks.{in-and}
 use Rattle.controller_laws.proofs.Valid.{Valid, sized}
 use Rattle.group.specs.World.{World}
 use Rattle.group.specs.Premises.{Meters, Telling, Released, Enough, Run}

@@ -14,9 +14,11 @@ use Rattle.units.specs.declared.labels.StateLabel.{StateLabel}
 use Rattle.units.specs.declared.settings.Numbers.{Numbers}
 use Rattle.units.specs.Mask.{inMask}
 use Rattle.units.proofs.Every.{and-right}
-use Rattle.units.proofs.Masks.{no-run}
+use Rattle.units.proofs.Masks.{no-run, in-and}
 use Rattle.vote.specs.declared.digest.Digest.{Digest}
 use Rattle.vote.specs.declared.votes.Ballot.the-variants.{Cast}
+use Rattle.vote.specs.Vote.{seated}
+use Rattle.vote.proofs.Decided.{decided-small}
 use Rattle.filter.specs.Compute.{setPoints}
 use Rattle.message.specs.declared.head.Head.{Head}
 use Rattle.message.specs.declared.head.Head.the-variants.{Reading, Reply, Update, Vote, Setpoints}
@@ -27,7 +29,6 @@ use Rattle.controller.specs.declared.state.Controller.{Controller}
 use Rattle.controller.specs.declared.step.Answer.{Answer}
 use Rattle.controller.specs.State.{briefOf, ballotAt}
 use Rattle.controller.specs.Start.{startOf, started}
-use Rattle.controller.specs.Effects.{seated}
 use Rattle.controller.specs.Merge.{mergedAt}
 use Rattle.controller.specs.Sent.{sentMessage}
 use Rattle.controller.specs.Step.{votesWith, stepped}
@@ -40,7 +41,6 @@ use Rattle.controller_laws.specs.Outcomes.StateBy.{kept, adopted, issued as by-
 use Rattle.controller_laws.specs.Sendings.{IsSent}
 use Rattle.controller_laws.proofs.Changes.{readings-from, votes-from, no-vote}
 use Rattle.controller_laws.proofs.Held.{merged-place}
-use Rattle.controller_laws.proofs.Masks.{in-and}
 use Rattle.controller_laws.proofs.Outcomes.{sent-by, sent-head, state-by}
 use Rattle.group.specs.World.{World, hand, store, crash, withUp, rising, answered, handed}
 use Rattle.group.specs.Premises.{Meters, Released, Telling, Enough, here, next, Run}
@@ -48,7 +48,7 @@ use Rattle.group.specs.Demand.{Issued, Canon, at-start, of-issued, Right
 use Rattle.group.proofs.Computing.{chosen-state, issued-state, issued-targets}
 use Rattle.group.proofs.Later.{after-keeps}
 use Rattle.group.proofs.Sent.{no-one, same-one, put-cases, risen-by, Fresh, new-or-old, still-sent, now-sent}
-use Rattle.group.proofs.Votes.{decided-small, decided-wins}
+use Rattle.group.proofs.Votes.{decided-wins}
 
 module _ (s : Numbers) (meters : Meters) (sent : List Message) (lines : (x : Message) → List·Memᴰ x sent → messageFits (s .group) x ≡ true)
     (unique : (i : ℕ) (label : RoundLabel) (d e : Digest) → Released sent i label d → Released sent i label e → d ≡ e) where

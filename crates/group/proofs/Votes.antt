@@ -15,8 +15,9 @@ use Rattle.units.specs.declared.settings.Group.{Group}
 use Rattle.units.specs.declared.settings.Numbers.{Numbers}
 use Rattle.units.specs.Labels.{roundFits}
 use Rattle.units.specs.Settings.{groupFits}
-use Rattle.units.specs.Within.{within}
 use Rattle.units.proofs.Every.{and-left, and-right, and-both}
+use Rattle.units.proofs.Tab.{length-tab, getD-tab}
+use Rattle.units.proofs.InRange.{group-range}
 use Rattle.vote.specs.declared.digest.Digest.{Digest}
 use Rattle.vote.specs.declared.judge.Decision.the-variants.{Decided}
 use Rattle.vote.specs.declared.votes.Ballot.{Ballot}
@@ -25,18 +26,16 @@ use Rattle.vote.specs.declared.votes.Seat.{Seat}
 use Rattle.vote.specs.declared.votes.Votes.{Votes}
 use Rattle.vote.specs.Decision.{decision}
 use Rattle.vote.specs.Digest.{legal}
-use Rattle.vote.specs.Vote.{Completes, Answers, ballotOf, ballots, seatFits, seatsFit, votesFit}
+use Rattle.vote.specs.Vote.{Completes, Answers, ballotOf, ballots, nobody, seatFits, votesFit}
 use Rattle.vote.specs.Vote.Completes.{done, kept, filled}
 use Rattle.vote.proofs.Answer.{decision-exact}
-use Rattle.filter.proofs.Tab.{length-tab, getD-tab}
+use Rattle.vote.proofs.InRange.{seats-length, seats-made, votes-three, votes-made}
 use Rattle.message.specs.declared.head.Head.{Head}
 use Rattle.message.specs.declared.head.Head.the-variants.{Reading, Query, Reply, Advert, Update, Vote, Setpoints, Due, CollectingEnds, VotingEnds, Floor, Start, Refused}
 use Rattle.message.specs.declared.value.Message.{Message}
 use Rattle.message.specs.Head.{headFits}
 use Rattle.message.specs.Message.{messageFits}
-use Rattle.controller.specs.State.{nobody}
 use Rattle.controller_laws.proofs.Fits.{told}
-use Rattle.controller_laws.proofs.Valid.{seats-length, seats-made}
 use Rattle.controller_laws.proofs.Ways.{on-pick, same-round}
 use Rattle.controller_laws.proofs.Changes.{not-missing, same-digest}
 use Rattle.group.specs.Premises.{Released}
@@ -51,8 +50,7 @@ vote-fits s j label d h =
     (and-left (ltb j (s .g)) (roundFits label) l, and-right (ltb j (s .g)) (roundFits label) l, and-right (ltb j (s .g) && roundFits label) (legal (s .m) label d) h)
 
 group-high : (s : Group) → groupFits s ≡ true → s .g ≤ 7
-unfolding groupFits
-group-high s h = leb-true _ _ (and-right (leb 1 (s .g)) _ (and-left (within 1 7 (s .g)) (within 1 16 (s .m)) h))
+group-high s h = group-range s h .controllers .1
 
 -- ---- finding a vote
 module _ (j : ℕ) (label : RoundLabel) where
@@ -142,14 +140,6 @@ module _ (m : ℕ) (label : RoundLabel) where
   completes (suc n) (x ∷ ss) (y ∷ ts) e f g =
       place (x .ballot) (y .ballot) _ _ (λ d. f 0 d) (λ d. g 0 d) (completes n ss ts (omega arith) (λ j d. f (suc j) d) (λ j d. g (suc j) d))
 
--- votes that are decided are those of a group in range
-pub decided-small : (v : Votes) (d : Digest) → decision v ≡ Decided d → v .group .m ≤ 16
-unfolding votesFit groupFits
-decided-small v d e =
-    let q = subst (Answers v) e (decision-exact v) in
-    let g = and-left (groupFits (v .group)) (roundFits (v .label)) (and-left (groupFits (v .group) && roundFits (v .label)) (seatsFit (v .group) (v .label) (v .seats)) (q .0)) in
-    leb-true _ _ (and-right (leb 1 (v .group .m)) _ (and-right (within 1 7 (v .group .g)) (within 1 16 (v .group .m)) g))
-
 -- ---- the votes of a whole run
 module _ (s : Numbers) (sent : List Message) (lines : (x : Message) → List·Memᴰ x sent → messageFits (s .group) x ≡ true)
     (unique : (i : ℕ) (label : RoundLabel) (d e : Digest) → Released sent i label d → Released sent i label e → d ≡ e) where
@@ -188,8 +178,8 @@ module _ (s : Numbers) (sent : List Message) (lines : (x : Message) → List·Me
 
   -- the votes released for a label are in range
   released-in-range : (label : RoundLabel) → groupFits (s .group) ≡ true → roundFits label ≡ true → votesFit (released s sent label) ≡ true
-  unfolding votesFit released
-  released-in-range label g r = and-both (and-both g r) (seats-made (s .group) label (seats label) (seats-are label) (λ i k. seat-in-range label i (getD (seats label) i nobody .ballot) refl))
+  unfolding released
+  released-in-range label g r = votes-made _ g r (seats-made (s .group) label (seats label) (seats-are label) (λ i k. seat-in-range label i (getD (seats label) i nobody .ballot) refl))
 
   -- what a number released stands in its seat
   in-seat : (label : RoundLabel) → groupFits (s .group) ≡ true → (j : ℕ) (d : Digest) → Released sent j label d → getD (seats label) j nobody .ballot ≡ Cast d
@@ -200,12 +190,12 @@ module _ (s : Numbers) (sent : List Message) (lines : (x : Message) → List·Me
   -- DECIDED, SO THE WINNER: what is decided among votes that were released is the winner of all the votes released for the label
   pub decided-wins : (label : RoundLabel) (held : List Seat) (d : Digest) → ((j : ℕ) (e : Digest) → getD held j nobody .ballot ≡ Cast e → Released sent j label e)
       → decision (record { group = s .group; label = label; seats = held }) ≡ Decided d → WonBy s sent label d
-  unfolding votesFit released
+  unfolding released
   decided-wins label held d from e =
       let v : Votes = record { group = s .group; label = label; seats = held } in
       let q = subst (Answers v) e (decision-exact v) in
-      let f = and-left (groupFits (s .group) && roundFits label) (seatsFit (s .group) label held) (q .0) in
-      let l = seats-length (s .group) label held (and-right (groupFits (s .group) && roundFits label) (seatsFit (s .group) label held) (q .0)) in
-      let c = completes (s .group .m) label (s .group .g) held (seats label) (l ∙ sym (seats-are label)) (λ j k h. in-seat label (and-left (groupFits (s .group)) _ f) j k (from j k h))
+      let f = votes-three v (q .0) in
+      let l = seats-length (s .group) label held (f .2) in
+      let c = completes (s .group .m) label (s .group .g) held (seats label) (l ∙ sym (seats-are label)) (λ j k h. in-seat label (f .0) j k (from j k h))
       (λ j k h. vote-fits (s .group) j label k (released-fits j label k (seated-released label j k h)) .2) in
-      (released-in-range label (and-left (groupFits (s .group)) _ f) (and-right (groupFits (s .group)) _ f), q .1 (ballots (released s sent label)) c)
+      (released-in-range label (f .0) (f .1), q .1 (ballots (released s sent label)) c)

@@ -12,13 +12,13 @@ use Rattle.units.specs.declared.settings.Numbers.{Numbers}
 use Rattle.units.specs.Labels.{issuedState}
 use Rattle.units.specs.Limits.{controllersTop, runsTop}
 use Rattle.units.specs.Pick.{pick}
+use Rattle.units.specs.Tab.{tab}
 use Rattle.vote.specs.declared.digest.Digest.{Digest}
 use Rattle.vote.specs.declared.votes.Ballot.{Ballot}
 use Rattle.vote.specs.declared.votes.Ballot.the-variants.{Missing, Cast}
 use Rattle.vote.specs.declared.votes.Votes.{Votes}
 use Rattle.vote.specs.Vote.{Wins, ballots, votesFit}
 use Rattle.filter.specs.Compute.{computed}
-use Rattle.filter.specs.Step.{tab}
 use Rattle.message.specs.declared.head.Head.{Head}
 use Rattle.message.specs.declared.head.Head.the-variants.{Reading, Query, Reply, Advert, Update, Vote, Setpoints, Due, CollectingEnds, VotingEnds, Floor, Start, Refused}
 use Rattle.message.specs.declared.value.Message.{Message}

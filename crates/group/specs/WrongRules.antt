@@ -12,7 +12,7 @@ use Rattle.vote.specs.declared.judge.Poll.{Poll}
 use Rattle.vote.specs.declared.judge.Poll.the-variants.{Nobody, Won, Refused as Denied}
 use Rattle.vote.specs.declared.votes.Votes.{Votes}
 use Rattle.vote.specs.Decision.{winning}
-use Rattle.vote.specs.Vote.{count, missing, ballots}
+use Rattle.vote.specs.Vote.{count, missing, ballots, nobody}
 use Rattle.filter.specs.Compute.{newState}
 use Rattle.message.specs.declared.head.Head.{Head}
 use Rattle.message.specs.declared.head.Head.the-variants.{Reading, Query, Reply, Advert, Update, Vote, Setpoints, Due, CollectingEnds, VotingEnds, Floor, Start, Refused}
@@ -26,7 +26,7 @@ use Rattle.plan.specs.Plan.{afterwards}
 use Rattle.plan.specs.Votes.{possessed}
 use Rattle.controller.specs.declared.state.Controller.{Controller}
 use Rattle.controller.specs.declared.step.Answer.{Answer}
-use Rattle.controller.specs.State.{briefOf, nobody, controllerFits}
+use Rattle.controller.specs.State.{briefOf, controllerFits}
 use Rattle.controller.specs.Effects.{inPhase, adopting, issuing}
 use Rattle.controller.specs.Step.{stepped}
 use Rattle.controller_laws.specs.Session.{Line, sends, sized}

@@ -15,6 +15,7 @@ use Rattle.units.specs.Pick.{pick}
 use Rattle.units.specs.Settings.{groupFits, runsFit, numbersFit}
 use Rattle.units.specs.Within.{within}
 use Rattle.units.proofs.Every.{and-left, and-right, every-at}
+use Rattle.units.proofs.InRange.{group-fits}
 use Rattle.message.specs.declared.settings.Settings.{Settings}
 use Rattle.message.specs.Settings.{byteAt, certificateFits, noCertificate, certificateAt, sixteen, settingsFit}
 use Rattle.fields.specs.declared.spelling.Spelling.the-variants.{Decimal, Factor}
@@ -123,12 +124,7 @@ settings-fit s e =
     }
 
 pub settings-group : (s : Settings) → settingsFit s ≡ true → groupFits (s .numbers .group) ≡ true
-unfolding numbersFit
-settings-group s e =
-    let n = s .numbers in
-    let Q = within 1 1000000 (n .q) && within 1 1000000 (n .r) in
-    let P = within 1 1000000000 (n .p) in
-    and-left (groupFits (n .group)) Q (and-left (groupFits (n .group) && Q) P (and-left (groupFits (n .group) && Q && P) (runsFit n) (settings-fit s e .numbers)))
+settings-group s e = group-fits (s .numbers) (settings-fit s e .numbers)
 
 -- `is_setting`
 module _ (s : Settings) (k : ℕ) (b : Bool) (be : b ≡ settingsFit s) where

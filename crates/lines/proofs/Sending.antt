@@ -14,6 +14,7 @@ use Rattle.units.specs.Pick.{pick}
 use Rattle.units.specs.Refusal.{numberOf}
 use Rattle.units.specs.Settings.{groupFits}
 use Rattle.units.proofs.Every.{and-left, and-right}
+use Rattle.units.proofs.InRange.{group-range}
 use Rattle.floats.specs.Ranges.{stateFits, targetsFit}
 use Rattle.message.specs.declared.head.Carried.{Carried}
 use Rattle.message.specs.declared.head.Head.{Head}
@@ -33,16 +34,10 @@ use Rattle.lines.proofs.Adding.{Roomy, roomy}
 
 -- WHAT A MESSAGE IN RANGE HAS IN RANGE
 pub group-runs : (s : Group) → groupFits s ≡ true → (1 ≤ s .m) × (s .m ≤ 16)
-unfolding groupFits
-group-runs s e =
-    let r = and-right (leb 1 (s .g) && leb (s .g) 7) (leb 1 (s .m) && leb (s .m) 16) e in
-    (leb-true 1 (s .m) (and-left (leb 1 (s .m)) (leb (s .m) 16) r), leb-true (s .m) 16 (and-right (leb 1 (s .m)) (leb (s .m) 16) r))
+group-runs s e = group-range s e .runs
 
 pub group-senders : (s : Group) → groupFits s ≡ true → (1 ≤ s .g) × (s .g ≤ 7)
-unfolding groupFits
-group-senders s e =
-    let r = and-left (leb 1 (s .g) && leb (s .g) 7) (leb 1 (s .m) && leb (s .m) 16) e in
-    (leb-true 1 (s .g) (and-left (leb 1 (s .g)) (leb (s .g) 7) r), leb-true (s .g) 7 (and-right (leb 1 (s .g)) (leb (s .g) 7) r))
+group-senders s e = group-range s e .controllers
 
 pub record Fits (s : Group) (a : Message) : Type 0 where
   pub group : groupFits s ≡ true

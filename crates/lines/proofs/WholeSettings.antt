@@ -15,6 +15,7 @@ use Rattle.units.specs.Pick.{pick}
 use Rattle.units.specs.Settings.{groupFits, placeFits, placeAt, runsFit, numbersFit}
 use Rattle.units.specs.Within.{within}
 use Rattle.units.proofs.Every.{and-left, and-right, every-at, every-all}
+use Rattle.units.proofs.InRange.{group-made, numbers-parts, numbers-from}
 use Rattle.message.specs.declared.certificate.Certificate.{Certificate}
 use Rattle.message.specs.declared.settings.Settings.{Settings}
 use Rattle.message.specs.Settings.{bytePlace, byteAt, certificateFits, noCertificate, certificateAt, settingsFit}
@@ -151,10 +152,10 @@ pub record Reached (us : List (List ℕ)) (i : ℕ) (st : Settling) : Type 0 whe
   pub lines : (k : ℕ) → k < 2 + i → getD us k [] ≡ settingLine (st .settings) (k + 1)
 
 reached-fits : (us : List (List ℕ)) (i : ℕ) (st : Settling) → Reached us i st → i ≡ st .settings .numbers .group .m → settingsFit (st .settings) ≡ true
-unfolding settingsFit numbersFit runsFit
+unfolding settingsFit
 reached-fits us i st r e =
     let s = st .settings in
-    rw (r .group, r .noise, r .first, every-all (placeAt (s .numbers)) 16 (λ j h. rw (← e) (r .places j h)), eq-eqb (length (s .numbers .factors)) 16 (r .factors), eq-eqb (length (s .numbers .weights)) 16 (r .weights), eq-eqb (length (s .certificates)) 16 (r .certificates))
+    rw (numbers-from (s .numbers) (r .group) (r .noise) (r .first) (λ j h. rw (← e) (r .places j h)), eq-eqb (length (s .numbers .factors)) 16 (r .factors), eq-eqb (length (s .numbers .weights)) 16 (r .weights), eq-eqb (length (s .certificates)) 16 (r .certificates))
     (every-all (certificateAt s) 16 (λ j h. rw (← e) (r .papers j h)))
 
 -- a line of an earlier run is of another run
@@ -316,13 +317,13 @@ runs-only (l ∷ ls) us i st end r b e =
 
 -- THE FIRST TWO LINES
 sizes-fit : (vs : List ℕ) → Fit Sizes anyGroup vs → (length vs ≡ 2) × (groupFits (record { g = getD vs 0 0; m = getD vs 1 0 }) ≡ true)
-unfolding countOf quantityAt limitFor groupFits
+unfolding countOf quantityAt limitFor
 sizes-fit vs f =
     let n : length vs ≡ 2 = f .counted in
     let e = fits-each Sizes anyGroup vs refl (f .inside) in
     let a = fits-range Decimal 1 controllersTop (getD vs 0 0) (e 0 (omega arith)) in
     let b = fits-range Decimal 1 runsTop (getD vs 1 0) (e 1 (omega arith)) in
-    (n, rw (le-leb 1 (getD vs 0 0) (a .least), le-leb (getD vs 0 0) controllersTop (a .most), le-leb 1 (getD vs 1 0) (b .least), le-leb (getD vs 1 0) runsTop (b .most)))
+    (n, group-made _ (record { controllers = (a .least, a .most); runs = (b .least, b .most) }))
 
 record Noisy (vs : List ℕ) : Type 0 where
   pub three : length vs ≡ 3
@@ -457,20 +458,11 @@ module _ (s : Settings) (fits : settingsFit s ≡ true) where
       let C = eqb (length (s .certificates)) 16 in
       (eqb-true (length (s .numbers .factors)) 16 (and-left F W (and-left (F && W) C l)), eqb-true (length (s .numbers .weights)) 16 (and-right F W (and-left (F && W) C l)), eqb-true (length (s .certificates)) 16 (and-right (F && W) C l))
 
-  noise-in : ((within 1 noiseTop (s .numbers .q) && within 1 noiseTop (s .numbers .r)) ≡ true) × (within 1 firstTop (s .numbers .p) ≡ true) × (runsFit (s .numbers) ≡ true)
-  unfolding numbersFit
-  noise-in =
-      let n = s .numbers in
-      let G = groupFits (n .group) in
-      let Q = within 1 noiseTop (n .q) && within 1 noiseTop (n .r) in
-      let P = within 1 firstTop (n .p) in
-      let e = settings-fit s fits .numbers in
-      let e₂ = and-left (G && Q && P) (runsFit n) e in
-      (and-right G Q (and-left (G && Q) P e₂), and-right (G && Q) P e₂, and-right (G && Q && P) (runsFit n) e)
+  noise-in : ((within 1 noiseTop (s .numbers .q) && within 1 noiseTop (s .numbers .r)) ≡ true) × (within 1 firstTop (s .numbers .p) ≡ true)
+  noise-in = let k = numbers-parts (s .numbers) (settings-fit s fits .numbers) in (k .1, k .2)
 
   place : (j : ℕ) → j < 16 → placeFits (ltb j (s .numbers .group .m)) (getD (s .numbers .factors) j 0) (getD (s .numbers .weights) j 0) ≡ true
-  unfolding runsFit
-  place j h = every-at (placeAt (s .numbers)) 16 j (noise-in .2) h
+  place j h = numbers-parts (s .numbers) (settings-fit s fits .numbers) .3 j h
 
   paper : (j : ℕ) → j < 16 → certificateFits (ltb j (s .numbers .group .m)) (getD (s .certificates) j noCertificate) ≡ true
   paper j h = every-at (certificateAt s) 16 j (settings-fit s fits .certificates) h

@@ -4,7 +4,7 @@ use mathlib.Core.Bool.{Bool, true, false}
 use lib.Count.{ones}
 use lib.Dec.{eqb}
 use Rattle.units.specs.declared.settings.Group.{Group}
-use Rattle.units.specs.Limits.{controllersTop, runsTop, labelTop, rawTop, factorLow, factorTop, weightTop, noiseTop, firstTop}
+use Rattle.units.specs.Limits.{controllersTop, runsTop, labelTop, rawTop, factorLow, factorTop, weightTop, noiseTop, firstTop, numberTop}
 use Rattle.units.specs.Mask.{maskEnd}
 use Rattle.units.specs.Pick.{pick}
 use Rattle.floats.specs.Bits.{xBits, varianceBits, targetBits}
@@ -108,7 +108,7 @@ limitFor Raw s given = limited Decimal 0 rawTop
 limitFor X s given = limited Hex16 0 xBits
 limitFor Variance s given = limited Hex16 0 varianceBits
 limitFor Target s given = limited Hex16 0 targetBits
-limitFor Number s given = limited Decimal 1 16
+limitFor Number s given = limited Decimal 1 numberTop
 limitFor Controllers s given = limited Decimal 1 controllersTop
 limitFor Runs s given = limited Decimal 1 runsTop
 limitFor Noise s given = limited Decimal 1 noiseTop

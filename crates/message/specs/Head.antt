@@ -6,7 +6,7 @@ use Rattle.units.specs.declared.settings.Group.{Group}
 use Rattle.units.specs.Labels.{roundFits, stateLabelFits, floorFits}
 use Rattle.units.specs.Limits.{rawTop}
 use Rattle.units.specs.Mask.{maskFits}
-use Rattle.units.specs.Within.{within}
+use Rattle.units.specs.Refusal.{isNumber}
 use Rattle.vote.specs.Digest.{legal}
 use Rattle.message.specs.declared.head.Carried.{Carried}
 use Rattle.message.specs.declared.head.Head.{Head}
@@ -26,7 +26,7 @@ headFits s (CollectingEnds label) = roundFits label
 headFits s (VotingEnds label) = roundFits label
 headFits s (Floor label) = roundFits label
 headFits s (Start own floor) = ltb own (s .g) && floorFits floor
-headFits s (Refused number) = within 1 16 number
+headFits s (Refused number) = isNumber number
 
 -- a mask of runs with readings, and how many runs' estimates and targets
 abbrev pub carry : ℕ → ℕ → ℕ → Carried

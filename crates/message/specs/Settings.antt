@@ -5,7 +5,7 @@ use mathlib.Core.List.{[]}
 use lib.Dec.{ltb, eqb}
 use lib.ListN.{length, getD}
 use Rattle.units.specs.Every.{every}
-use Rattle.units.specs.Limits.{runsTop}
+use Rattle.units.specs.Limits.{certificateTop, runsTop}
 use Rattle.units.specs.Settings.{numbersFit}
 use Rattle.units.specs.Within.{within}
 use Rattle.message.specs.declared.certificate.Certificate.{Certificate}
@@ -20,11 +20,11 @@ byteAt c i = bytePlace (ltb i (c .len)) (getD (c .bytes) i 0)
 
 -- a run's certificate has 1 to 16 bytes, a place that is no run has none
 abbrev pub lenFits : Bool → ℕ → Bool
-lenFits true len = within 1 16 len
+lenFits true len = within 1 certificateTop len
 lenFits false len = eqb len 0
 
 unfoldable pub certificateFits : Bool → Certificate → Bool
-certificateFits run c = (lenFits run (c .len) && eqb (length (c .bytes)) runsTop) && every (byteAt c) runsTop
+certificateFits run c = (lenFits run (c .len) && eqb (length (c .bytes)) certificateTop) && every (byteAt c) certificateTop
 
 -- what a list of certificates reads as past its end; it is in no range
 abbrev pub noCertificate : Certificate

@@ -1,7 +1,7 @@
 // A meter's certificate: 1 to 16 bytes that can be seen.
 ghost use mathlib.Core.Path.{_≡_};
 ghost use Rattle.message.specs.Settings.{bytePlace, certificateFits, lenFits};
-use units::limits::RUNS;
+use units::limits::CERTIFICATE;
 
 // The first `len` bytes count, the others are 0. A place that is no run has len 0.
 pub struct Certificate {
@@ -13,7 +13,7 @@ fn len_in_range(run: bool, len: usize) -> bool
     ensures { λ r. ⌜ r ≡ lenFits run len ⌝ }
 {
     if run {
-        (1 <= len) & (len <= 16)
+        (1 <= len) & (len <= CERTIFICATE)
     } else {
         len == 0
     }
@@ -33,7 +33,7 @@ impl Certificate {
         let len = self.len;
         let mut fit = len_in_range(run, len);
         let mut i = 0usize;
-        while i < RUNS {
+        while i < CERTIFICATE {
             fit = fit & byte_in_range(i < len, self.bytes[i]);
             i += 1;
         }

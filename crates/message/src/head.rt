@@ -4,6 +4,7 @@ ghost use Rattle.message.specs.Head.{carried, headFits, isPlain};
 use units::Group;
 use units::RoundLabel;
 use units::StateLabel;
+use units::is_number;
 use units::limits::RAW_TOP;
 use units::mask::mask_in_range;
 use vote::Digest;
@@ -141,7 +142,7 @@ impl Head {
             Head::VotingEnds { label } => label.in_range(),
             Head::Floor { label } => label.in_range(),
             Head::Start { own, floor } => (own < group.g) & floor.floor_in_range(),
-            Head::Refused { number } => (1 <= number) & (number <= 16),
+            Head::Refused { number } => is_number(number),
         }
     }
 

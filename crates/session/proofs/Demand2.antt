@@ -17,7 +17,8 @@ use Rattle.vote.specs.declared.votes.Votes.{Votes}
 use Rattle.vote.specs.Decision.{decision}
 use Rattle.vote.specs.Vote.{Answers, Decides}
 use Rattle.vote.proofs.Answer.{decision-exact}
-use Rattle.filter.specs.Compute.{newTotal, setPoints, computed}
+use Rattle.vote.proofs.Decided.{decided-for}
+use Rattle.filter.specs.Compute.{setPoints, computed}
 use Rattle.message.specs.declared.head.Head.{Head}
 use Rattle.message.specs.declared.head.Head.the-variants.{Setpoints}
 use Rattle.message.specs.declared.settings.Settings.{Settings}
@@ -44,7 +45,6 @@ use Rattle.controller_laws.specs.Outcomes.{Settled, SentBy}
 use Rattle.controller_laws.specs.Outcomes.SentBy.{query, reply, advert, update, floor, vote, setpoints}
 use Rattle.controller_laws.specs.Sendings.{IsSent}
 use Rattle.controller_laws.specs.Ways.{Votes as TakenIn}
-use Rattle.controller_laws.proofs.Decided.{decided-for}
 use Rattle.controller_laws.proofs.Judging.{judged-exactly}
 use Rattle.controller_laws.proofs.Outcomes.{sent-by}
 use Rattle.session.specs.declared.feed.Session.{Session}
@@ -90,7 +90,6 @@ module _ (s : Numbers) (c : Controller) (a : Message) where
   n = stepped s c a .next
 
   settled-issue : {chosen : Digest} → Settled s c (a .head) chosen n → Issued s c (a .head) chosen n (setPoints s (n .estimates))
-  unfolding computed newTotal setPoints
   settled-issue {chosen} t =
       record {
         seat = t .seat;

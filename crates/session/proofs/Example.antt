@@ -9,14 +9,14 @@ use Rattle.units.specs.Every.{every}
 use Rattle.units.specs.Limits.{lineTop}
 use Rattle.units.specs.Pick.{pick}
 use Rattle.units.specs.Settings.{groupFits, runsFit, numbersFit}
+use Rattle.units.specs.Tab.{tab}
 use Rattle.floats.specs.Bits.{bitsOf, floatOf, sameFloat}
 use Rattle.floats.specs.Ranges.{estimateFits, sameEstimate, stateFits, targetsFit}
 use Rattle.vote.specs.Digest.{legal, same, rank, unrank, full, least}
 use Rattle.vote.specs.Vote.{seatFits, seatsFit, votesFit}
 use Rattle.vote.specs.Decision.{tallyOf, strengthOf, largest, otherThan, outsider, missingOf, heldOff, rivalOf, settledAt, settled, decision}
 use Rattle.filter.specs.Run.{atMost, limited, grown, measured, gain, moved, shrunk, outcome}
-use Rattle.filter.specs.Step.{tab, place}
-use Rattle.filter.specs.Step as Rounds
+use Rattle.filter.specs.Runs.{place, runsAfter}
 use Rattle.filter.specs.Share.{addAll, total, sumOf, weightSum, target, share, targets}
 use Rattle.filter.specs.Compute.{newState, setPoints}
 use Rattle.fields.specs.Certificate.{allVisible, isCertificate}
@@ -56,7 +56,7 @@ use Rattle.session.proofs.Whole.{whole}
 
 -- every byte that comes out, for every byte that goes in
 pub session : station sessionInput ≡ sessionOutput
-unfolding bytesOf sessionInput sessionOutput linesOf closing answers coreStart settlesTo waitsFor hears sentText verdictText answerText turnBy ones lt le eq add sub mul div ofInt ofBits toBits fits every pick groupFits runsFit numbersFit bitsOf floatOf sameFloat estimateFits sameEstimate stateFits targetsFit legal same rank unrank full least seatFits seatsFit votesFit tallyOf strengthOf largest otherThan outsider missingOf heldOff rivalOf settledAt settled decision atMost limited grown measured gain moved shrunk outcome tab place Rounds.stepped addAll total sumOf weightSum target share targets newState setPoints allVisible isCertificate digitOf charOf valueFrom fixedIn fixed decimalIn decimal Fields.plain decimalSaid factorSaid saidBy pointed spelled Fields.fits judge readField written until laterFields tabbed headFits carried plain messageFits readingsFit afterwards collected sameRound planReading planAdvert inEnds planEnds inFloor planFloor possessed chosenPlan judged column joined readAll readValues readText readLine started settleWeight settleFactor settleCertificate settleRun isKind settleText settleLine kindOf quantityAt limitFor countOf headOf messageWith kindIs headValues valuesOf lineOf spellLine refusalLine phaseFits controllerFits startEstimates startOf runBit applied sentMessage judgedIn judgedPlan planned inputsFit stepped
+unfolding bytesOf sessionInput sessionOutput linesOf closing answers coreStart settlesTo waitsFor hears sentText verdictText answerText turnBy ones lt le eq add sub mul div ofInt ofBits toBits fits every pick groupFits runsFit numbersFit bitsOf floatOf sameFloat estimateFits sameEstimate stateFits targetsFit legal same rank unrank full least seatFits seatsFit votesFit tallyOf strengthOf largest otherThan outsider missingOf heldOff rivalOf settledAt settled decision atMost limited grown measured gain moved shrunk outcome tab place runsAfter addAll total sumOf weightSum target share targets newState setPoints allVisible isCertificate digitOf charOf valueFrom fixedIn fixed decimalIn decimal Fields.plain decimalSaid factorSaid saidBy pointed spelled Fields.fits judge readField written until laterFields tabbed headFits carried plain messageFits readingsFit afterwards collected sameRound planReading planAdvert inEnds planEnds inFloor planFloor possessed chosenPlan judged column joined readAll readValues readText readLine started settleWeight settleFactor settleCertificate settleRun isKind settleText settleLine kindOf quantityAt limitFor countOf headOf messageWith kindIs headValues valuesOf lineOf spellLine refusalLine phaseFits controllerFits startEstimates startOf runBit applied sentMessage judgedIn judgedPlan planned inputsFit stepped
 session = refl
 
 -- so these bytes are written for those, however they are cut into pieces and whatever buffers are lent

@@ -8,6 +8,7 @@ use Rattle.units.specs.declared.refusal.Refusal.{Refusal}
 use Rattle.units.specs.declared.refusal.Refusal.the-variants.{Long}
 use Rattle.units.specs.declared.refusal.Verdict.the-variants.{Taken}
 use Rattle.units.specs.Limits.{lineTop}
+use Rattle.units.proofs.InRange.{group-fits}
 use Rattle.message.specs.declared.head.Head.the-variants.{Start}
 use Rattle.lines.specs.declared.settle.Answer.the-variants.{Refused as NoSettings}
 use Rattle.lines.specs.Reading.{readLine}
@@ -18,7 +19,6 @@ use Rattle.controller.specs.declared.step.Answer.{Answer}
 use Rattle.controller.specs.Effects.{applied}
 use Rattle.controller.specs.Start.{startOf}
 use Rattle.controller.specs.Step.{planned}
-use Rattle.controller_laws.proofs.Valid.{group-fits}
 use Rattle.session.specs.declared.stage.Core.{Core}
 use Rattle.session.specs.declared.stage.Stage.{Stage}
 use Rattle.session.specs.declared.stage.Stage.the-variants.{Settling as AtSettings, Waiting, Running, Ended}

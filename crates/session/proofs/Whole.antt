@@ -12,6 +12,7 @@ use Rattle.units.specs.declared.refusal.Verdict.{Verdict}
 use Rattle.units.specs.Limits.{lineTop}
 use Rattle.units.specs.Pick.{pick}
 use Rattle.units.specs.Settings.{groupFits, numbersFit}
+use Rattle.units.proofs.InRange.{group-fits}
 use Rattle.fields.specs.Text.{lineFeed, lacks}
 use Rattle.fields.proofs.Cases.{by-test, by-lt}
 use Rattle.fields.proofs.Texts.{lacks-append}
@@ -21,7 +22,6 @@ use Rattle.fields.proofs.Carrying.{start-holds, emptied-holds, held-holds}
 use Rattle.fields.proofs.Lines.{lines-last, lines-none, unfinished-all, feed-none, lines-off, unfinished-off}
 use Rattle.lines.specs.declared.settle.Settling.{Settling}
 use Rattle.lines.specs.Writing.{bufferOf}
-use Rattle.controller_laws.proofs.Valid.{group-fits}
 use Rattle.session.specs.declared.feed.Fed.{Fed}
 use Rattle.session.specs.declared.feed.Session.{Session}
 use Rattle.session.specs.declared.stage.Core.{Core}

@@ -4,3 +4,6 @@ pub mod Masks
 pub mod Scan
 pub mod Picked
 pub mod Numbers
+pub mod Tab
+pub mod InRange
+pub mod Refusals

@@ -6,4 +6,6 @@ pub mod Refusal
 pub mod Mask
 pub mod Every
 pub mod Pick
+pub mod Tab
 pub mod Settings
+pub mod InRange

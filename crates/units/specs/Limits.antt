@@ -7,6 +7,10 @@ controllersTop = 7
 abbrev pub runsTop : ℕ
 runsTop = 16
 
+-- "certificate (1 to 16 bytes ..)"
+abbrev pub certificateTop : ℕ
+certificateTop = 16
+
 abbrev pub labelTop : ℕ
 labelTop = 4294967295
 
@@ -42,6 +46,10 @@ varianceTop = 1000000000
 
 abbrev pub targetTop : ℕ
 targetTop = 17600000
+
+-- "`X` number (1..16)"
+abbrev pub numberTop : ℕ
+numberTop = 16
 
 abbrev pub lineTop : ℕ
 lineTop = 600

@@ -1,10 +1,13 @@
 -- Document 01's table of refusals: the number of each, and what 15 carries.
 use Prim.Native.Nat.{ℕ}
+use mathlib.Core.Bool.{Bool}
 use mathlib.Core.List.{List, [], _∷_}
 use Rattle.units.specs.declared.refusal.Refusal.{Refusal}
 use Rattle.units.specs.declared.refusal.Refusal.the-variants.{Long, Unended, Kind, Fields, Form, Range, Own, Late, Closed, Other, Clash, Undecided, Lacking, Behind, Settings, Room}
 use Rattle.units.specs.declared.refusal.Verdict.{Verdict}
 use Rattle.units.specs.declared.refusal.Verdict.the-variants.{Taken, Refused}
+use Rattle.units.specs.Limits.{numberTop}
+use Rattle.units.specs.Within.{within}
 
 abbrev pub numberOf : Refusal → ℕ
 numberOf Long = 1
@@ -23,6 +26,10 @@ numberOf Lacking = 13
 numberOf Behind = 14
 numberOf (Settings line reason) = 15
 numberOf Room = 16
+
+-- "`X` number (1..16)": a number of the table. `is-number-exact` of proofs/Refusals.antt says that these are the refusals' numbers and no others.
+abbrev pub isNumber : ℕ → Bool
+isNumber n = within 1 numberTop n
 
 -- "line number from 1, and 1..6 as reason"
 abbrev pub valuesOf : Refusal → List ℕ

@@ -11,5 +11,6 @@ pub use labels::RoundLabel;
 pub use labels::StateLabel;
 pub use refusal::Refusal;
 pub use refusal::Verdict;
+pub use refusal::is_number;
 pub use settings::Group;
 pub use settings::Numbers;

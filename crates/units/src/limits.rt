@@ -5,6 +5,9 @@ pub const CONTROLLERS: usize = 7;
 
 pub const RUNS: usize = 16;
 
+// The bytes of a certificate.
+pub const CERTIFICATE: usize = 16;
+
 // Round labels and state labels.
 pub const ROUND_LOW: u32 = 1;
 
@@ -41,6 +44,11 @@ pub const X_TOP: f64 = 1100000.0;
 pub const VARIANCE_TOP: f64 = 1000000000.0;
 
 pub const TARGET_TOP: f64 = 17600000.0;
+
+// A refusal's number, as X may carry it.
+pub const NUMBER_LOW: u32 = 1;
+
+pub const NUMBER_TOP: u32 = 16;
 
 // A line's bytes, its line feed among them.
 pub const LINE: usize = 600;

@@ -1,6 +1,8 @@
 // Why something was refused, and document 01's number for it.
 ghost use mathlib.Core.Path.{_≡_};
-ghost use Rattle.units.specs.Refusal.{numberOf, verdictNumber};
+ghost use Rattle.units.specs.Refusal.{isNumber, numberOf, verdictNumber};
+use crate::limits::NUMBER_LOW;
+use crate::limits::NUMBER_TOP;
 
 pub enum Refusal {
     Long,
@@ -44,6 +46,13 @@ impl Refusal {
             Refusal::Room => 16,
         }
     }
+}
+
+// Whether n is a refusal's number, as X may carry it.
+pub fn is_number(n: u32) -> bool
+    ensures { λ r. ⌜ r ≡ isNumber n ⌝ }
+{
+    (NUMBER_LOW <= n) & (n <= NUMBER_TOP)
 }
 
 // What an act says of itself: taken, or refused.

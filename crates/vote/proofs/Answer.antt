@@ -22,7 +22,7 @@ use Rattle.vote.specs.declared.judge.Poll.{Poll}
 use Rattle.vote.specs.declared.judge.Poll.the-variants.{Nobody, Won, Refused as Denied}
 use Rattle.vote.specs.Digest.{legal, rank, unrank}
 use Rattle.vote.specs.Vote.{total, count, missing, Wins, Decides, Answers, Names, ballotOf, allBallots, ballots, rankOf, votesFit}
-use Rattle.vote.specs.Decision.{ranksOf, strengths, largest, missingOf, heldOff, rivalOf, settledAt, settled, decision, strongestAt, winning}
+use Rattle.vote.specs.Decision.{seat, ranksOf, strengths, largest, missingOf, heldOff, rivalOf, settledAt, settled, decision, strongestAt, winning}
 use Rattle.vote.proofs.Order.{same-dec, unrank-rank, rank-below}
 use Rattle.vote.proofs.Lexicographic.{lex-rank}
 use Rattle.vote.proofs.Counting.{all-voted, as-it-is}
@@ -93,22 +93,22 @@ module _ (v : Votes) (fit : votesFit v ≡ true) where
 
   -- ---- the strongest vote
 
-  module _ (d : Digest) (k : 1 ≤ count d (allBallots v)) (top : count d (allBallots v) * 2 ^ 56 + rank d ≡ largest (strengths ranks)) where
+  module _ (d : Digest) (k : 1 ≤ count d (allBallots v)) (top : count d (allBallots v) * seat + rank d ≡ largest (strengths ranks)) where
     some : largest (strengths ranks) ≡ 0 → ⊥
     some z = omega arith
 
-    first : largest (strengths ranks) % 2 ^ 56 ≡ rank d
+    first : largest (strengths ranks) % seat ≡ rank d
     unfolding ranks
-    first = ap (λ (n : ℕ). n % 2 ^ 56) (sym top) ∙ rank-of-strength (v .group .m) (v .label) (round v fit) (allBallots v) (all-legal v fit) d k
+    first = ap (λ (n : ℕ). n % seat) (sym top) ∙ rank-of-strength (v .group .m) (v .label) (round v fit) (allBallots v) (all-legal v fit) d k
 
-    named : unrank (largest (strengths ranks) % 2 ^ 56) ≡ d
+    named : unrank (largest (strengths ranks) % seat) ≡ d
     named = ap unrank first ∙ unrank-rank (v .group .m) (v .label) (round v fit) d (all-voted _ (allBallots v) (all-legal v fit) d k)
 
-    behind : (e : Digest) → 1 ≤ count e (allBallots v) → count e (allBallots v) * 2 ^ 56 + rank e ≤ count d (allBallots v) * 2 ^ 56 + rank d
+    behind : (e : Digest) → 1 ≤ count e (allBallots v) → count e (allBallots v) * seat + rank e ≤ count d (allBallots v) * seat + rank d
     unfolding ranks
     behind e c = omega (arith, weaker (v .group .m) (v .label) (round v fit) (allBallots v) (all-legal v fit) e c)
 
-    below : (e : Digest) → 1 ≤ count e (allBallots v) → rank e < 2 ^ 56
+    below : (e : Digest) → 1 ≤ count e (allBallots v) → rank e < seat
     below e c = rank-below (v .group .m) (v .label) (round v fit) e (all-voted _ (allBallots v) (all-legal v fit) e c)
 
     compared : (e : Digest) → (count e (ballots v) ≤ count d (ballots v)) × (count e (ballots v) ≡ count d (ballots v) → rank e ≤ rank d)
@@ -133,10 +133,10 @@ module _ (v : Votes) (fit : votesFit v ≡ true) where
     won-something = rw (ne-eqb (largest (strengths ranks)) 0 some, named) (fit, won)
 
     abbrev Test : Bool → Type 0
-    Test b = heldOff (rivalOf (v .group .m) (v .label) (strengths ranks) (rank d)) (missing (ballots v)) (count d (allBallots v) * 2 ^ 56 + rank d) ≡ b
+    Test b = heldOff (rivalOf (v .group .m) (v .label) (strengths ranks) (rank d)) (missing (ballots v)) (count d (allBallots v) * seat + rank d) ≡ b
 
     settled-is : settled (v .group) (v .label) ranks
-        ≡ pick (heldOff (rivalOf (v .group .m) (v .label) (strengths ranks) (rank d)) (missing (ballots v)) (count d (allBallots v) * 2 ^ 56 + rank d)) (Decided d) Undecided
+        ≡ pick (heldOff (rivalOf (v .group .m) (v .label) (strengths ranks) (rank d)) (missing (ballots v)) (count d (allBallots v) * seat + rank d)) (Decided d) Undecided
     unfolding settled settledAt pick
     settled-is = rw (ne-eqb (largest (strengths ranks)) 0 some, named, first, missing-is, ← top)
 

@@ -8,6 +8,7 @@ use mathlib.Core.Bool.{true}
 use mathlib.Core.List.{List}
 use mathlib.Core.Logic.{_⊎_, ⊎-elim, by-cases}
 use Rattle.units.specs.declared.labels.RoundLabel.{RoundLabel}
+use Rattle.vote.specs.Decision.{seat}
 use Rattle.vote.specs.declared.digest.Digest.{Digest}
 use Rattle.vote.specs.declared.votes.Ballot.{Ballot}
 use Rattle.vote.specs.Digest.{legal, rank}
@@ -18,7 +19,7 @@ use Rattle.vote.proofs.Counting.{All, all-voted, as-it-is, grows, bound
 
 -- e with k votes more stays behind d
 abbrev pub Trails : List Ballot → ℕ → Digest → Digest → Type 0
-Trails s k d e = (count e s + k) * 2 ^ 56 + rank e < count d s * 2 ^ 56 + rank d
+Trails s k d e = (count e s + k) * seat + rank e < count d s * seat + rank d
 
 -- d has a vote, and no other legal digest can catch up by k votes
 pub record Safe (m : ℕ) (label : RoundLabel) (s : List Ballot) (k : ℕ) (d : Digest) : Type 0 where

@@ -4,29 +4,23 @@ use native.Mathlib.Omega.{arith}
 use mathlib.Core.Path.{_≡_, refl, sym, ap, subst, _∙_}
 use mathlib.Core.Bool.{Bool, true, false, _&&_}
 use mathlib.Core.List.{List, [], _∷_, map}
-use lib.Dec.{leb, ltb, eqb}
+use lib.Dec.{ltb}
 use lib.ListN.{length, getD, take, drop, take-append-drop, length-drop, length-map}
-use borrow.Author.Tests.{leb-true, eqb-true, le-ltb}
+use borrow.Author.Tests.{le-ltb}
 use Rattle.units.specs.declared.labels.RoundLabel.{RoundLabel}
-use Rattle.units.specs.Every.{every}
-use Rattle.units.specs.Labels.{roundFits}
-use Rattle.units.specs.Settings.{groupFits}
-use Rattle.units.specs.Within.{within}
-use Rattle.units.proofs.Every.{and-left, and-right, every-at}
+use Rattle.units.proofs.Every.{and-right}
 use Rattle.vote.specs.declared.digest.Digest.{Digest}
 use Rattle.vote.specs.declared.votes.Ballot.{Ballot}
 use Rattle.vote.specs.declared.votes.Ballot.the-variants.{Missing, Cast}
 use Rattle.vote.specs.declared.votes.Seat.{Seat}
 use Rattle.vote.specs.declared.votes.Votes.{Votes}
 use Rattle.vote.specs.Digest.{legal}
-use Rattle.vote.specs.Vote.{votesFor, gap, total, count, missing, ballotOf, allBallots, ballots, seatFits, seatAt, seatsFit, votesFit}
+use Rattle.vote.specs.Vote.{votesFor, gap, total, count, missing, ballotOf, allBallots, ballots, nobody, seatFits, seatAt, votesFit}
 use Rattle.vote.proofs.Order.{Round}
+use Rattle.vote.proofs.InRange.{seats-place, votes-three, votes-range}
 use Rattle.vote.proofs.Counting.{AtBallot, All, total-append}
 
 -- ---- seats and lists of ballots
-
-abbrev nobody : Seat
-nobody = record { ballot = Missing }
 
 seats-from : (P : Digest → Type 0) (g : ℕ) (l : List Seat) → ((i : ℕ) → g ≤ i → i < length l → AtBallot P (getD l i nobody .ballot)) → All P (drop g (map ballotOf l))
 unfolding All
@@ -67,40 +61,19 @@ seat-beyond m label (Cast d) h = let z : _≡_ {A = ℕ} 0 1 = cc in omega arith
 -- ---- votes in range
 
 module _ (v : Votes) (fit : votesFit v ≡ true) where
-  group-fits : groupFits (v .group) ≡ true
-  unfolding votesFit
-  group-fits = and-left (groupFits (v .group)) (roundFits (v .label)) (and-left (groupFits (v .group) && roundFits (v .label)) _ fit)
-
-  round-fits : roundFits (v .label) ≡ true
-  unfolding votesFit
-  round-fits = and-right (groupFits (v .group)) (roundFits (v .label)) (and-left (groupFits (v .group) && roundFits (v .label)) _ fit)
-
-  seats-fit : seatsFit (v .group) (v .label) (v .seats) ≡ true
-  unfolding votesFit
-  seats-fit = and-right (groupFits (v .group) && roundFits (v .label)) _ fit
-
   seven : length (v .seats) ≡ 7
-  unfolding seatsFit
-  seven = eqb-true _ _ (and-left (eqb (length (v .seats)) 7) _ seats-fit)
+  seven = votes-range v fit .seats .seven
 
   seat-fits : (i : ℕ) → i < length (v .seats) → seatAt (v .group) (v .label) (v .seats) i ≡ true
-  unfolding seatsFit
-  seat-fits i k = every-at (seatAt (v .group) (v .label) (v .seats)) 7 i (and-right (eqb (length (v .seats)) 7) _ seats-fit) (omega (arith, seven))
+  seat-fits i k = seats-place (v .group) (v .label) (v .seats) (votes-three v fit .2) i (omega (arith, seven))
 
   pub groups : v .group .g ≤ 7
-  unfolding groupFits
-  groups = leb-true _ _ (and-right (leb 1 (v .group .g)) _ (and-left (within 1 7 (v .group .g)) _ group-fits))
+  groups = votes-range v fit .controllers .1
 
   pub round : Round (v .group .m) (v .label)
-  unfolding groupFits
   round =
-      let r = and-right (within 1 7 (v .group .g)) (within 1 16 (v .group .m)) group-fits in
-      record {
-        runs-low = leb-true _ _ (and-left (leb 1 (v .group .m)) _ r);
-        runs-high = leb-true _ _ (and-right (leb 1 (v .group .m)) _ r);
-        label-low = leb-true _ _ (and-left (leb 1 (v .label .0)) _ round-fits);
-        label-high = omega (arith, leb-true (v .label .0) 4294967295 (and-right (leb 1 (v .label .0)) _ round-fits));
-      }
+      let f = votes-range v fit in
+      record { runs-low = f .runs .0; runs-high = f .runs .1; label-low = f .label .0; label-high = omega (arith, f .label .1) }
 
   pub all-legal : All (λ d. legal (v .group .m) (v .label) d ≡ true) (allBallots v)
   all-legal = seats-from _ 0 (v .seats) (λ i a k. seat-legal (ltb i (v .group .g)) (v .group .m) (v .label) _ (seat-fits i k))

@@ -9,14 +9,15 @@ use lib.Count.{ones}
 use Rattle.units.specs.declared.labels.RoundLabel.{RoundLabel}
 use Rattle.vote.specs.declared.digest.Digest.{Digest}
 use Rattle.vote.specs.Digest.{legal, Lex, rank}
-use Rattle.vote.proofs.Order.{Round, legal-facts, mask-small, digest-path}
+use Rattle.vote.proofs.InRange.{legal-range}
+use Rattle.vote.proofs.Order.{Round, mask-small, digest-path}
 
 module _ (m : ℕ) (label : RoundLabel) (w : Round m label) where
   pub lex-rank : (d e : Digest) → legal m label d ≡ true → legal m label e ≡ true → Lex d e → rank d < rank e
   unfolding rank
   lex-rank d e p q h =
-      let k = legal-facts m label w d p in
-      let l = legal-facts m label w e q in
+      let k = legal-range m label d p in
+      let l = legal-range m label e q in
       let a = mask-small m label w d k in
       let b = mask-small m label w e l in
       ⊎-elim (λ x. omega (arith, k .older, l .older, w .label-high))

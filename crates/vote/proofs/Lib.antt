@@ -1,4 +1,5 @@
 -- The laws of the vote that belong to no one function.
+pub mod InRange
 pub mod Order
 pub mod Lexicographic
 pub mod Counting
@@ -9,3 +10,4 @@ mod Settling
 pub mod Strength
 pub mod Rule
 pub mod Answer
+pub mod Decided

@@ -7,15 +7,18 @@ use mathlib.Core.Logic.{_⊎_, inl, inr, by-cases}
 use mathlib.Core.Path.{_≡_, refl, sym, ap, _∙_}
 use mathlib.Core.Bool.{Bool, true, false, _&&_}
 use lib.Count.{ones, ones-le, ones-ones, ones-step}
-use lib.Dec.{eqb, leb, ltb}
+use lib.Dec.{eqb}
 use lib.Pow.{pow-mono}
-use borrow.Author.Tests.{eqb-true, eq-eqb, leb-true, ltb-true, le-leb, lt-ltb}
+use borrow.Author.Tests.{eqb-true, eq-eqb}
 use Rattle.units.specs.declared.labels.RoundLabel.{RoundLabel}
-use Rattle.units.specs.Mask.{maskEnd, maskFits}
+use Rattle.units.specs.Mask.{maskEnd}
 use Rattle.units.proofs.Every.{and-left, and-right}
 use Rattle.units.proofs.Masks.{mask-end-is}
 use Rattle.vote.specs.declared.digest.Digest.{Digest}
 use Rattle.vote.specs.Digest.{legal, same, rank, unrank, full, least}
+use Rattle.vote.specs.InRange.{LegalDigest}
+use Rattle.vote.specs.Decision.{seat}
+use Rattle.vote.proofs.InRange.{legal-range, legal-made}
 
 -- ---- the same digest
 
@@ -44,7 +47,7 @@ same-dec d e = told (same d e) refl
     told true h = inl (same-true d e h)
     told false h = inr (same-false d e h)
 
--- ---- a round and its legal digests, as facts
+-- ---- a round, as facts
 
 pub record Round (m : ℕ) (label : RoundLabel) : Type 0 where
   pub runs-low : 1 ≤ m
@@ -52,30 +55,8 @@ pub record Round (m : ℕ) (label : RoundLabel) : Type 0 where
   pub label-low : 1 ≤ label .0
   pub label-high : label .0 < 2 ^ 32
 
-pub record Legal (m : ℕ) (label : RoundLabel) (d : Digest) : Type 0 where
-  pub some-run : 1 ≤ d .mask
-  pub own-runs : d .mask < 2 ^ m
-  pub older : d .state .0 < label .0
-
 module _ (m : ℕ) (label : RoundLabel) (w : Round m label) where
-  pub legal-facts : (d : Digest) → legal m label d ≡ true → Legal m label d
-  unfolding legal
-  legal-facts d h =
-      let ab = and-left (leb m 16 && maskFits m (d .mask)) (ltb (d .state .0) (label .0)) h in
-      let mask = and-right (leb m 16) (maskFits m (d .mask)) ab in
-      record {
-        some-run = leb-true 1 (d .mask) (and-left (leb 1 (d .mask)) (ltb (d .mask) (maskEnd m)) mask);
-        own-runs = omega (arith, ltb-true (d .mask) (maskEnd m) (and-right (leb 1 (d .mask)) (ltb (d .mask) (maskEnd m)) mask), mask-end-is m (w .runs-high));
-        older = ltb-true (d .state .0) (label .0) (and-right (leb m 16 && maskFits m (d .mask)) (ltb (d .state .0) (label .0)) h);
-      }
-
-  facts-legal : (d : Digest) → Legal m label d → legal m label d ≡ true
-  unfolding legal
-  facts-legal d l =
-      let own : d .mask < maskEnd m = omega (arith, l .own-runs, mask-end-is m (w .runs-high)) in
-      rw (le-leb m 16 (w .runs-high), le-leb 1 (d .mask) (l .some-run), lt-ltb (d .mask) (maskEnd m) own, lt-ltb (d .state .0) (label .0) (l .older))
-
-  pub mask-small : (d : Digest) → Legal m label d → d .mask < 2 ^ 16
+  pub mask-small : (d : Digest) → LegalDigest m label d → d .mask < 2 ^ 16
   mask-small d l = omega (arith, l .own-runs, pow-mono {i = m} {j = 16} (w .runs-high))
 
   -- ---- THE LAWS OF THE ORDER
@@ -84,7 +65,7 @@ module _ (m : ℕ) (label : RoundLabel) (w : Round m label) where
   pub unrank-rank : (d : Digest) → legal m label d ≡ true → unrank (rank d) ≡ d
   unfolding rank unrank
   unrank-rank d h =
-      let l = legal-facts d h in
+      let l = legal-range m label d h in
       let a = mask-small d l in
       digest-path (unrank (rank d)) d (omega (arith, l .older, w .label-high)) (omega (arith, l .older, w .label-high))
 
@@ -93,10 +74,10 @@ module _ (m : ℕ) (label : RoundLabel) (w : Round m label) where
   rank-injective d e p q h = sym (unrank-rank d p) ∙ ap unrank h ∙ unrank-rank e q
 
   -- a rank is below what one vote adds
-  pub rank-below : (d : Digest) → legal m label d ≡ true → rank d < 2 ^ 56
+  pub rank-below : (d : Digest) → legal m label d ≡ true → rank d < seat
   unfolding rank
   rank-below d h =
-      let l = legal-facts d h in
+      let l = legal-range m label d h in
       omega (arith, l .older, w .label-high, mask-small d l, ones-le 16 (d .mask) (mask-small d l))
 
   pub full-legal : legal m label (full m label) ≡ true
@@ -104,12 +85,12 @@ module _ (m : ℕ) (label : RoundLabel) (w : Round m label) where
   full-legal =
       let two : 2 ^ 1 ≤ 2 ^ m = pow-mono {i = 1} {j = m} (w .runs-low) in
       let e = mask-end-is m (w .runs-high) in
-      facts-legal (full m label) (record { some-run = omega arith; own-runs = omega arith; older = omega (arith, w .label-low) })
+      legal-made m label (full m label) (record { runs = w .runs-high; some-run = omega arith; own-runs = omega arith; older = omega (arith, w .label-low) })
 
   pub full-largest : (d : Digest) → legal m label d ≡ true → rank d ≤ rank (full m label)
   unfolding rank full
   full-largest d h =
-      let l = legal-facts d h in
+      let l = legal-range m label d h in
       let e = mask-end-is m (w .runs-high) in
       let o : ones (maskEnd m - 1) ≡ m = ap (λ (n : ℕ). ones (n - 1)) e ∙ ones-ones m in
       omega (arith, ones-le m (d .mask) (l .own-runs), l .own-runs, l .older)
@@ -118,7 +99,7 @@ module _ (m : ℕ) (label : RoundLabel) (w : Round m label) where
   unfolding least
   least-legal =
       let two : 2 ^ 1 ≤ 2 ^ m = pow-mono {i = 1} {j = m} (w .runs-low) in
-      facts-legal least (record { some-run = omega arith; own-runs = omega arith; older = omega (arith, w .label-low) })
+      legal-made m label least (record { runs = w .runs-high; some-run = omega arith; own-runs = omega arith; older = omega (arith, w .label-low) })
 
 ones-pos′ : (n x : ℕ) → x ≤ n → 1 ≤ x → 1 ≤ ones x
 ones-pos′ zero x g h = absurd (omega arith)
@@ -130,7 +111,7 @@ module _ (m : ℕ) (label : RoundLabel) (w : Round m label) where
   pub least-smallest : (d : Digest) → legal m label d ≡ true → rank least ≤ rank d
   unfolding rank least ones
   least-smallest d h =
-      let l = legal-facts m label w d h in
+      let l = legal-range m label d h in
       omega (arith, l .some-run, ones-pos′ (d .mask) (d .mask) (le-refl (d .mask)) (l .some-run))
 
 pub least-some : 1 ≤ rank least

@@ -15,25 +15,25 @@ use Rattle.vote.specs.declared.digest.Digest.{Digest}
 use Rattle.vote.specs.declared.votes.Ballot.{Ballot}
 use Rattle.vote.specs.Digest.{legal, rank, full, least}
 use Rattle.vote.specs.Vote.{count, rankOf}
-use Rattle.vote.specs.Decision.{strengthOf, strengths, largest, otherThan, othersThan, outsider, heldOff, rivalOf}
+use Rattle.vote.specs.Decision.{seat, strengthOf, strengths, largest, otherThan, othersThan, outsider, heldOff, rivalOf}
 use Rattle.vote.proofs.Order.{Round, same-dec, rank-injective, rank-below, full-legal, full-largest, least-legal, least-smallest}
 use Rattle.vote.proofs.Counting.{All, all-voted}
 use Rattle.vote.proofs.Exact.{Trails, Safe}
 use Rattle.vote.proofs.Strength.{rank-some, strength-is, largest-above, largest-found}
 
-pub held-yes : (r k best : ℕ) → heldOff r k best ≡ true → (r ≡ 0) ⊎ (k * 2 ^ 56 < best - r)
+pub held-yes : (r k best : ℕ) → heldOff r k best ≡ true → (r ≡ 0) ⊎ (k * seat < best - r)
 unfolding heldOff pick
 held-yes r k best = told (eqb r 0) refl
   where
-    told : (b : Bool) → eqb r 0 ≡ b → pick b true (ltb (k * 2 ^ 56) (best - r)) ≡ true → (r ≡ 0) ⊎ (k * 2 ^ 56 < best - r)
+    told : (b : Bool) → eqb r 0 ≡ b → pick b true (ltb (k * seat) (best - r)) ≡ true → (r ≡ 0) ⊎ (k * seat < best - r)
     told true e h = inl (eqb-true r 0 e)
     told false e h = inr (ltb-true _ _ h)
 
-pub held-no : (r k best : ℕ) → heldOff r k best ≡ false → (1 ≤ r) × (best - r ≤ k * 2 ^ 56)
+pub held-no : (r k best : ℕ) → heldOff r k best ≡ false → (1 ≤ r) × (best - r ≤ k * seat)
 unfolding heldOff pick
 held-no r k best = told (eqb r 0) refl
   where
-    told : (b : Bool) → eqb r 0 ≡ b → pick b true (ltb (k * 2 ^ 56) (best - r)) ≡ false → (1 ≤ r) × (best - r ≤ k * 2 ^ 56)
+    told : (b : Bool) → eqb r 0 ≡ b → pick b true (ltb (k * seat) (best - r)) ≡ false → (1 ≤ r) × (best - r ≤ k * seat)
     told true e h = let z : _≡_ {A = ℕ} 0 1 = cc in absurd (omega arith)
     told false e h = let n = eqb-false r 0 e in (omega arith, ltb-false _ _ h)
 
@@ -43,19 +43,19 @@ module _ (m : ℕ) (label : RoundLabel) (w : Round m label) (s : List Ballot) (o
 
   -- ---- the strongest vote
 
-  pub strongest : (largest (strengths ranks) ≡ 0) ⊎ ((d : Digest) × (1 ≤ count d s) × (count d s * 2 ^ 56 + rank d ≡ largest (strengths ranks)))
+  pub strongest : (largest (strengths ranks) ≡ 0) ⊎ ((d : Digest) × (1 ≤ count d s) × (count d s * seat + rank d ≡ largest (strengths ranks)))
   unfolding strengthOf pick
   strongest =
       ⊎-elim inl (λ q. inr (q .0, q .1, sym (strength-is m label w (q .0) (all-voted _ s ok (q .0) (q .1)) s ok) ∙ q .2)) (largest-found (strengthOf ranks) refl s)
 
-  pub weaker : (e : Digest) → 1 ≤ count e s → count e s * 2 ^ 56 + rank e ≤ largest (strengths ranks)
+  pub weaker : (e : Digest) → 1 ≤ count e s → count e s * seat + rank e ≤ largest (strengths ranks)
   weaker e k = omega (arith, largest-above (strengthOf ranks) s e k, strength-is m label w e (all-voted _ s ok e k) s ok)
 
   module _ (d : Digest) (v : 1 ≤ count d s) where
     own : legal m label d ≡ true
     own = all-voted _ s ok d v
 
-    pub rank-of-strength : (count d s * 2 ^ 56 + rank d) % 2 ^ 56 ≡ rank d
+    pub rank-of-strength : (count d s * seat + rank d) % seat ≡ rank d
     rank-of-strength = omega (arith, rank-below m label w d own)
 
     -- ---- the other votes
@@ -75,11 +75,11 @@ module _ (m : ℕ) (label : RoundLabel) (w : Round m label) (s : List Ballot) (o
         told true = refl
         told false = refl
 
-    other-is : (e : Digest) → legal m label e ≡ true → (e ≡ d → ⊥) → other (rank e) ≡ count e s * 2 ^ 56 + rank e
+    other-is : (e : Digest) → legal m label e ≡ true → (e ≡ d → ⊥) → other (rank e) ≡ count e s * seat + rank e
     unfolding other otherThan pick
     other-is e l n =
         let q = strength-is m label w e l s ok in
-        let r : (count e s * 2 ^ 56 + rank e) % 2 ^ 56 ≡ rank e = omega (arith, rank-below m label w e l) in
+        let r : (count e s * seat + rank e) % seat ≡ rank e = omega (arith, rank-below m label w e l) in
         rw (q, r, ne-eqb (rank e) (rank d) (λ z. n (rank-injective m label w e d l own z)))
 
     other-self : other (rank d) ≡ 0
@@ -88,7 +88,7 @@ module _ (m : ℕ) (label : RoundLabel) (w : Round m label) (s : List Ballot) (o
 
     -- the strongest other vote: 0, or that of a vote for another
     other-found : (largest (map other ranks) ≡ 0)
-        ⊎ ((x : Digest) × (1 ≤ count x s) × (x ≡ d → ⊥) × (count x s * 2 ^ 56 + rank x ≡ largest (map other ranks)))
+        ⊎ ((x : Digest) × (1 ≤ count x s) × (x ≡ d → ⊥) × (count x s * seat + rank x ≡ largest (map other ranks)))
     other-found =
         ⊎-elim inl
         (λ q. ⊎-elim (λ p. inl (sym (q .2) ∙ ap (λ (x : Digest). other (rank x)) p ∙ other-self))
@@ -96,13 +96,13 @@ module _ (m : ℕ) (label : RoundLabel) (w : Round m label) (s : List Ballot) (o
         (same-dec (q .0) d))
         (largest-found other other-none s)
 
-    other-above : (e : Digest) → 1 ≤ count e s → (e ≡ d → ⊥) → count e s * 2 ^ 56 + rank e ≤ largest (map other ranks)
+    other-above : (e : Digest) → 1 ≤ count e s → (e ≡ d → ⊥) → count e s * seat + rank e ≤ largest (map other ranks)
     other-above e k n = omega (arith, largest-above other s e k, other-is e (all-voted _ s ok e k) n)
 
     -- ---- the rival
 
-    rival-voted : (x : Digest) → 1 ≤ count x s → (x ≡ d → ⊥) → count x s * 2 ^ 56 + rank x ≡ largest (map other ranks)
-        → rivalOf m label (strengths ranks) (rank d) ≡ count x s * 2 ^ 56 + rank x
+    rival-voted : (x : Digest) → 1 ≤ count x s → (x ≡ d → ⊥) → count x s * seat + rank x ≡ largest (map other ranks)
+        → rivalOf m label (strengths ranks) (rank d) ≡ count x s * seat + rank x
     unfolding rivalOf pick
     rival-voted x k n e =
         let z : largest (map other ranks) ≡ 0 → ⊥ = λ z. omega (arith, k) in
@@ -131,12 +131,12 @@ module _ (m : ℕ) (label : RoundLabel) (w : Round m label) (s : List Ballot) (o
 
     module _ (k : ℕ) where
       abbrev best : ℕ
-      best = count d s * 2 ^ 56 + rank d
+      best = count d s * seat + rank d
 
       abbrev Test : Bool → Type 0
       Test b = heldOff (rivalOf m label (strengths ranks) (rank d)) k best ≡ b
 
-      beaten : Test true → (r : ℕ) → 1 ≤ r → rivalOf m label (strengths ranks) (rank d) ≡ r → k * 2 ^ 56 < best - r
+      beaten : Test true → (r : ℕ) → 1 ≤ r → rivalOf m label (strengths ranks) (rank d) ≡ r → k * seat < best - r
       beaten h r some e = ⊎-elim (λ z. absurd (omega arith)) (λ q. omega arith) (held-yes (rivalOf m label (strengths ranks) (rank d)) k best h)
 
       -- nobody voted another: an unseen digest is held off by the full one, or by the least one
@@ -160,15 +160,15 @@ module _ (m : ℕ) (label : RoundLabel) (w : Round m label) (s : List Ballot) (o
             behind = λ e l n.
                 by-cases (decLe 1 (count e s))
                 (λ c. ⊎-elim (λ z. absurd (omega (arith, other-above e c n)))
-                (λ x. let b = beaten h (count (x .0) s * 2 ^ 56 + rank (x .0)) (omega (arith, x .1)) (rival-voted (x .0) (x .1) (x .2) (x .3)) in
+                (λ x. let b = beaten h (count (x .0) s * seat + rank (x .0)) (omega (arith, x .1)) (rival-voted (x .0) (x .1) (x .2) (x .3)) in
                 omega (arith, other-above e c n, x .3)) other-found)
                 (λ c. ⊎-elim (λ z. unseen h z e l n (omega arith))
-                (λ x. let b = beaten h (count (x .0) s * 2 ^ 56 + rank (x .0)) (omega (arith, x .1)) (rival-voted (x .0) (x .1) (x .2) (x .3)) in
+                (λ x. let b = beaten h (count (x .0) s * seat + rank (x .0)) (omega (arith, x .1)) (rival-voted (x .0) (x .1) (x .2) (x .3)) in
                 omega (arith, x .1, rank-below m label w e l)) other-found);
           }
 
       -- one that could catch up
-      caught : Safe m label s k d → (x : Digest) → legal m label x ≡ true → (x ≡ d → ⊥) → (r : ℕ) → r ≤ count x s * 2 ^ 56 + rank x
+      caught : Safe m label s k d → (x : Digest) → legal m label x ≡ true → (x ≡ d → ⊥) → (r : ℕ) → r ≤ count x s * seat + rank x
           → rivalOf m label (strengths ranks) (rank d) ≡ r → Test false → ⊥
       caught f x l n r le e h = omega (arith, f .behind x l n, held-no (rivalOf m label (strengths ranks) (rank d)) k best h)
 
@@ -180,5 +180,5 @@ module _ (m : ℕ) (label : RoundLabel) (w : Round m label) (s : List Ballot) (o
           (λ q. omega (arith, held-no (rivalOf m label (strengths ranks) (rank d)) k best h, rival-outside z ∙ outsider-none p q))
           (λ q. caught f least (least-legal m label w) (differs least q) (rank least) (omega arith) (rival-outside z ∙ outsider-least p q) h))
           (λ p. caught f (full m label) (full-legal m label w) (differs (full m label) p) (rank (full m label)) (omega arith) (rival-outside z ∙ outsider-full p) h))
-          (λ x. caught f (x .0) (all-voted _ s ok (x .0) (x .1)) (x .2) (count (x .0) s * 2 ^ 56 + rank (x .0)) (omega arith) (rival-voted (x .0) (x .1) (x .2) (x .3)) h)
+          (λ x. caught f (x .0) (all-voted _ s ok (x .0) (x .1)) (x .2) (count (x .0) s * seat + rank (x .0)) (omega arith) (rival-voted (x .0) (x .1) (x .2) (x .3)) h)
           other-found

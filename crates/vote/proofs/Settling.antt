@@ -11,7 +11,7 @@ use Rattle.vote.specs.declared.digest.Digest.{Digest}
 use Rattle.vote.specs.declared.judge.Decision.the-variants.{Undecided, Decided}
 use Rattle.vote.specs.declared.judge.Poll.the-variants.{Nobody, Won}
 use Rattle.vote.specs.Digest.{unrank}
-use Rattle.vote.specs.Decision.{strengths, largest, missingOf, heldOff, rivalOf, settledAt, settled, strongestAt}
+use Rattle.vote.specs.Decision.{seat, strengths, largest, missingOf, heldOff, rivalOf, settledAt, settled, strongestAt}
 
 -- the strengths and the largest of them, as the code has found them
 module _ (l found : List ℕ) (best : ℕ) (p : found ≡ strengths l) (q : best ≡ largest found) where
@@ -22,23 +22,23 @@ module _ (l found : List ℕ) (best : ℕ) (p : found ≡ strengths l) (q : best
   unfolding strongestAt
   nobody-won z = by-yes _ (eq-eqb _ 0 (sym top ∙ z)) refl
 
-  pub somebody-won : (best ≡ 0 → ⊥) → (d : Digest) → d ≡ unrank (best % 2 ^ 56) → Won d ≡ strongestAt (largest (strengths l))
+  pub somebody-won : (best ≡ 0 → ⊥) → (d : Digest) → d ≡ unrank (best % seat) → Won d ≡ strongestAt (largest (strengths l))
   unfolding strongestAt
-  somebody-won n d e = by-no _ (ne-eqb _ 0 (λ z. n (top ∙ z))) (ap Won (e ∙ ap (λ (k : ℕ). unrank (k % 2 ^ 56)) top))
+  somebody-won n d e = by-no _ (ne-eqb _ 0 (λ z. n (top ∙ z))) (ap Won (e ∙ ap (λ (k : ℕ). unrank (k % seat)) top))
 
   module _ (group : Group) (label : RoundLabel) where
     pub settled-none : best ≡ 0 → Undecided ≡ settled group label l
     unfolding settled settledAt
     settled-none z = by-yes _ (eq-eqb _ 0 (sym top ∙ z)) refl
 
-    module _ (n : best ≡ 0 → ⊥) (rival k : ℕ) (r : rival ≡ rivalOf (group .m) label found (best % 2 ^ 56)) (m : k ≡ missingOf (group .g) l) where
-      test : (b : Bool) → b ≡ heldOff rival k best → heldOff (rivalOf (group .m) label (strengths l) (largest (strengths l) % 2 ^ 56)) (missingOf (group .g) l) (largest (strengths l)) ≡ b
+    module _ (n : best ≡ 0 → ⊥) (rival k : ℕ) (r : rival ≡ rivalOf (group .m) label found (best % seat)) (m : k ≡ missingOf (group .g) l) where
+      test : (b : Bool) → b ≡ heldOff rival k best → heldOff (rivalOf (group .m) label (strengths l) (largest (strengths l) % seat)) (missingOf (group .g) l) (largest (strengths l)) ≡ b
       test b h = let t = top in cc
 
-      pub settled-yes : (b : Bool) → b ≡ heldOff rival k best → b ≡ true → (d : Digest) → d ≡ unrank (best % 2 ^ 56) → Decided d ≡ settled group label l
+      pub settled-yes : (b : Bool) → b ≡ heldOff rival k best → b ≡ true → (d : Digest) → d ≡ unrank (best % seat) → Decided d ≡ settled group label l
       unfolding settled settledAt
       settled-yes b h y d e =
-          by-no _ (ne-eqb _ 0 (λ z. n (top ∙ z))) (by-yes _ (test b h ∙ y) (ap Decided (e ∙ ap (λ (j : ℕ). unrank (j % 2 ^ 56)) top)))
+          by-no _ (ne-eqb _ 0 (λ z. n (top ∙ z))) (by-yes _ (test b h ∙ y) (ap Decided (e ∙ ap (λ (j : ℕ). unrank (j % seat)) top)))
 
       pub settled-no : (b : Bool) → b ≡ heldOff rival k best → b ≡ false → Undecided ≡ settled group label l
       unfolding settled settledAt

@@ -15,7 +15,7 @@ use Rattle.vote.specs.declared.votes.Ballot.{Ballot}
 use Rattle.vote.specs.declared.votes.Ballot.the-variants.{Missing, Cast}
 use Rattle.vote.specs.Digest.{legal, same, rank, least}
 use Rattle.vote.specs.Vote.{bit, votesFor, total, count, missing, rankOf}
-use Rattle.vote.specs.Decision.{tallyOf, strengthOf, largest}
+use Rattle.vote.specs.Decision.{seat, tallyOf, strengthOf, largest}
 use Rattle.vote.proofs.Order.{Round, same-dec, rank-injective, rank-below, least-smallest, least-some}
 use Rattle.vote.proofs.Counting.{All, for-self, for-other}
 
@@ -43,7 +43,7 @@ module _ (m : ℕ) (label : RoundLabel) (w : Round m label) where
       omega (arith, ap bit (ne-eqb (rank e) 0 (λ z. absurd (omega (arith, rank-some e (ok .0))))), tally-missing s (ok .1))
 
   pub strength-is : (d : Digest) → legal m label d ≡ true → (s : List Ballot) → All (λ e. legal m label e ≡ true) s
-      → strengthOf (map rankOf s) (rank d) ≡ count d s * 2 ^ 56 + rank d
+      → strengthOf (map rankOf s) (rank d) ≡ count d s * seat + rank d
   unfolding strengthOf pick
   strength-is d h s ok =
       rw (ne-eqb (rank d) 0 (λ z. absurd (omega (arith, rank-some d h))), tally-count d h s ok)

@@ -49,7 +49,8 @@ otherThan x s = pick (eqb (s % seat) x) 0 s
 abbrev pub othersThan : ℕ → List ℕ → List ℕ
 othersThan x l = map (otherThan x) l
 
--- the rank of the strongest legal digest other than x, where nobody voted another
+-- where nobody voted another than x, the rank that a rival is tried by: that of the full digest; where x is full, that of the least; where x is both, 0.
+-- A full digest wins every tie, so against it one other is as good as any: `unseen` of proofs/Rule.antt.
 unfoldable pub outsider : ℕ → RoundLabel → ℕ → ℕ
 outsider m label x = pick (eqb (rank (full m label)) x) (pick (eqb (rank least) x) 0 (rank least)) (rank (full m label))
 
@@ -61,7 +62,7 @@ missingOf g l = g - (controllersTop - tallyOf 0 l)
 unfoldable pub heldOff : ℕ → ℕ → ℕ → Bool
 heldOff rival k best = pick (eqb rival 0) true (ltb (k * seat) (best - rival))
 
--- among votes of the strengths l: the strongest other than x or, where there is none, the strongest outsider
+-- among votes of the strengths l: the strongest other than x or, where there is none, the outsider
 unfoldable pub rivalOf : ℕ → RoundLabel → List ℕ → ℕ → ℕ
 rivalOf m label l x = pick (eqb (largest (othersThan x l)) 0) (outsider m label x) (largest (othersThan x l))
 

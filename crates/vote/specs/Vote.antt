@@ -4,7 +4,7 @@ use mathlib.Core.Path.{_≡_}
 use mathlib.Core.Bool.{Bool, true, false, _&&_}
 use mathlib.Core.List.{List, [], _∷_, map}
 use lib.Dec.{eqb, ltb}
-use lib.ListN.{length, take, getD}
+use lib.ListN.{length, take, getD, set}
 use Rattle.units.specs.declared.labels.RoundLabel.{RoundLabel}
 use Rattle.units.specs.declared.settings.Group.{Group}
 use Rattle.units.specs.Every.{every}
@@ -75,13 +75,21 @@ allBallots v = map ballotOf (v .seats)
 abbrev pub ballots : Votes → List Ballot
 ballots v = take (v .group .g) (allBallots v)
 
+-- a seat without a vote
+abbrev pub nobody : Seat
+nobody = record { ballot = Missing }
+
+-- one vote put in its seat
+abbrev pub seated : List Seat → ℕ → Digest → List Seat
+seated votes seat digest = set votes seat (record { ballot = Cast digest })
+
 -- a seat of the group holds a legal vote or none, any other seat none
 unfoldable pub seatFits : Bool → ℕ → RoundLabel → Ballot → Bool
 seatFits inside m label Missing = true
 seatFits inside m label (Cast d) = inside && legal m label d
 
 abbrev pub seatAt : Group → RoundLabel → List Seat → ℕ → Bool
-seatAt group label seats i = seatFits (ltb i (group .g)) (group .m) label (getD seats i (record { ballot = Missing }) .ballot)
+seatAt group label seats i = seatFits (ltb i (group .g)) (group .m) label (getD seats i nobody .ballot)
 
 -- there are seven seats
 unfoldable pub seatsFit : Group → RoundLabel → List Seat → Bool

@@ -28,7 +28,7 @@ pub enum Poll {
     Won(Digest),
 }
 
-// The rank of the strongest legal digest other than x, where nobody voted another: full, or least where x is full; 0 where x is both.
+// Where nobody voted another than x, the rank that a rival is tried by: that of full; of least where x is full; 0 where x is both.
 fn outsider_of(group: Group, label: RoundLabel, x: u64) -> u64
     ensures { λ r. ⌜ r ≡ outsider (group .m) label x ⌝ }
 {
@@ -50,7 +50,7 @@ fn missing_of(g: usize, ranks: [u64; 7]) -> u64
     if cast < all { all - cast } else { 0 }
 }
 
-// The strongest vote other than x or, where there is none, the strongest outsider.
+// The strongest vote other than x or, where there is none, the outsider.
 fn strongest_rival(group: Group, label: RoundLabel, found: [u64; 7], x: u64) -> u64
     ensures { λ r. ⌜ r ≡ rivalOf (group .m) label found x ⌝ }
 {

@@ -12,3 +12,4 @@ pub use judge::winner;
 pub use votes::Ballot;
 pub use votes::Seat;
 pub use votes::Votes;
+pub use votes::put_vote;

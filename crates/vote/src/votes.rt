@@ -1,6 +1,6 @@
 // The votes of one round, handed in as a value.
 ghost use mathlib.Core.Path.{_≡_};
-ghost use Rattle.vote.specs.Vote.{rankOf, seatFits, seatsFit, votesFit};
+ghost use Rattle.vote.specs.Vote.{rankOf, seated, seatFits, seatsFit, votesFit};
 use crate::digest::Digest;
 use units::Group;
 use units::RoundLabel;
@@ -45,6 +45,19 @@ impl Seat {
             Ballot::Cast(d) => d.rank(),
         }
     }
+}
+
+// One vote put in its seat; past the last seat nothing.
+pub fn put_vote(votes: [Seat; 7], seat: usize, digest: Digest) -> [Seat; 7]
+    ensures { λ r. ⌜ r ≡ seated votes seat digest ⌝ }
+{
+    let mut next = votes;
+    if seat < CONTROLLERS {
+        next[seat] = Seat {
+            ballot: Ballot::Cast(digest),
+        };
+    }
+    next
 }
 
 // Whether each of seven seats is in range.

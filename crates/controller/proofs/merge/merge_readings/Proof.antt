@@ -8,7 +8,7 @@ use mathlib.Core.List.{List}
 use native.Mathlib.Nat.{le-refl}
 use lib.ListN.{length, getD}
 use Rattle.units.specs.Mask.{inMask}
-use Rattle.filter.proofs.Tab.{Filled, fill-none, fill-more, fill-done}
+use Rattle.units.proofs.Tab.{Filled, fill-none, fill-more, fill-done}
 use Rattle.controller.specs.Merge.{mergedAt, merged}
 use Rattle.controller.proofs.merge.merge_readings.Statement.{statement}
 use Rattle.controller.proofs.merge.merge_readings.Tie as tie

@@ -6,8 +6,8 @@ use mathlib.Core.Path.{refl}
 use lib.Dec.{ltb}
 use lib.ListN.{replicate}
 use Rattle.units.specs.declared.estimate.Estimate.{Estimate}
+use Rattle.units.proofs.Tab.{Filled, fill-none, fill-more, fill-done}
 use Rattle.floats.specs.Ranges.{blank, noEstimate}
-use Rattle.filter.proofs.Tab.{Filled, fill-none, fill-more, fill-done}
 use Rattle.controller.specs.Start.{startAt, startEstimates}
 use Rattle.controller.proofs.start.start_estimates.Statement.{statement}
 use Rattle.controller.proofs.start.start_estimates.Tie as tie

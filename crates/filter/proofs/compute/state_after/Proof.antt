@@ -1,7 +1,7 @@
 -- `state_after` meets its contract. Assumes nothing.
 use Prim.Native.Nat.{ℕ}
 use mathlib.Core.Path.{ap, _∙_}
-use Rattle.filter.specs.Step.{stepped}
+use Rattle.filter.specs.Runs.{runsAfter}
 use Rattle.filter.specs.Compute.{newState}
 use borrow.Author.Needs.{needs}
 use Rattle.filter.proofs.compute.state_after.Statement.{statement}
@@ -10,12 +10,12 @@ use Rattle.filter.proofs.compute.state_after.Tie as tie
 since-requires : tie.Need-since-requires
 since-requires c κs = search needs
 
-step-requires : tie.Need-step-requires
-step-requires c κs = search needs
+runs-after-requires : tie.Need-runs-after-requires
+runs-after-requires c κs = search needs
 
 returns : tie.Need-returns
 unfolding newState
-returns c = let a = c .before .before .args in c .step .ensures ∙ ap (λ (n : ℕ). stepped (a .state) n (a .numbers) (a .chosen) (a .readings)) (c .before .since .ensures)
+returns c = let a = c .before .before .args in c .runs-after .ensures ∙ ap (λ (n : ℕ). runsAfter (a .state) n (a .numbers) (a .chosen) (a .readings)) (c .before .since .ensures)
 
 pub state-after-spec : {M : Type 1} → statement M
-state-after-spec = tie.close (tie.spec since-requires step-requires returns)
+state-after-spec = tie.close (tie.spec since-requires runs-after-requires returns)

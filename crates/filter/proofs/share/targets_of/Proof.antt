@@ -6,9 +6,9 @@ use native.Mathlib.Omega.{arith}
 use lib.ListN.{replicate}
 use lib.Ieee.{Float, nan}
 use Rattle.floats.specs.Bits.{nought}
-use Rattle.filter.specs.Step.{tab}
+use Rattle.units.specs.Tab.{tab}
 use Rattle.filter.specs.Share.{shared, targets}
-use Rattle.filter.proofs.Tab.{Filled, fill-none, fill-more, fill-done}
+use Rattle.units.proofs.Tab.{Filled, fill-none, fill-more, fill-done}
 use borrow.Author.Needs.{needs}
 use Rattle.filter.proofs.share.targets_of.Statement.{statement}
 use Rattle.filter.proofs.share.targets_of.Tie as tie

@@ -4,7 +4,7 @@ use mathlib.Core.Path.{refl, sym}
 use native.Mathlib.Omega.{arith}
 use Rattle.units.proofs.Picked.{by-yes, by-no}
 use borrow.Author.Tests.{eq-eqb, ne-eqb, le-ltb}
-use Rattle.vote.specs.Decision.{heldOff}
+use Rattle.vote.specs.Decision.{seat, heldOff}
 use borrow.Author.Needs.{needs}
 use Rattle.vote.proofs.judge.held_off.Statement.{statement}
 use Rattle.vote.proofs.judge.held_off.Tie as tie
@@ -15,7 +15,7 @@ returns c = by-yes _ (eq-eqb _ 0 (c .if1 .taken)) refl
 
 returns-2 : tie.Need-returns-2
 unfolding heldOff
-returns-2 c = by-no _ (ne-eqb _ 0 (c .before .if1 .left)) (sym (le-ltb (c .before .before .args .k * 2 ^ 56) (c .before .before .args .best - c .before .before .args .rival) (omega arith)))
+returns-2 c = by-no _ (ne-eqb _ 0 (c .before .if1 .left)) (sym (le-ltb (c .before .before .args .k * seat) (c .before .before .args .best - c .before .before .args .rival) (omega arith)))
 
 mul-result : tie.Need-mul-result
 mul-result c = search needs

@@ -5,7 +5,7 @@ use mathlib.Core.Path.{_≡_, sym, ap}
 use lib.ListN.{length, List·getD-eq-default}
 use Rattle.units.proofs.Scan.{length-mapped}
 use Rattle.vote.specs.declared.votes.Seat.{Seat}
-use Rattle.controller.specs.State.{nobody}
+use Rattle.vote.specs.Vote.{nobody}
 use borrow.Author.Needs.{needs}
 use Rattle.controller.proofs.state.Controller.ballot.Statement.{statement}
 use Rattle.controller.proofs.state.Controller.ballot.Tie as tie

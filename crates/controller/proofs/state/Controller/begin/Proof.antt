@@ -1,7 +1,7 @@
 -- `Controller::begin` meets its contract. Assumes nothing.
 use lib.ListN.{replicate}
+use Rattle.vote.specs.Vote.{nobody}
 use Rattle.plan.specs.declared.brief.Phase.the-variants.{Idle}
-use Rattle.controller.specs.State.{nobody}
 use Rattle.controller.specs.Start.{startOf}
 use borrow.Author.Needs.{needs}
 use Rattle.controller.proofs.state.Controller.begin.Statement.{statement}

@@ -1,7 +1,7 @@
 -- `Controller::begin_round` meets its contract. Assumes nothing.
 use lib.ListN.{replicate}
+use Rattle.vote.specs.Vote.{nobody}
 use Rattle.plan.specs.declared.brief.Phase.the-variants.{Collecting}
-use Rattle.controller.specs.State.{nobody}
 use borrow.Author.Needs.{needs}
 use Rattle.controller.proofs.state.Controller.begin_round.Statement.{statement}
 use Rattle.controller.proofs.state.Controller.begin_round.Tie as tie

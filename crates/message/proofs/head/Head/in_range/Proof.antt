@@ -1,6 +1,6 @@
 -- `Head::in_range` meets its contract: in each kind, what its own function finds. Assumes nothing.
 use lib.Dec.{ltb}
-use mathlib.Core.Path.{refl, ap}
+use mathlib.Core.Path.{ap}
 use mathlib.Core.Bool.{_&&_}
 use Rattle.message.specs.Head.{headFits}
 use Rattle.units.proofs.Picked.{along}
@@ -83,6 +83,9 @@ floor-in-range-requires c κs = search needs
 enum-known-self-13 : tie.Need-enum-known-self-13
 enum-known-self-13 c = search needs
 
+is-number-requires : tie.Need-is-number-requires
+is-number-requires c κs = search needs
+
 returns : tie.Need-returns
 unfolding headFits
 returns c = along (headFits _) (c .before .before .self .given .1) (c .reading-fits .ensures)
@@ -133,7 +136,7 @@ returns-12 c = along (headFits _) (c .before .before .before .self12 .given .1) 
 
 returns-13 : tie.Need-returns-13
 unfolding headFits
-returns-13 c = along (headFits _) (c .before .self13 .given .1) refl
+returns-13 c = along (headFits _) (c .before .before .self13 .given .1) (c .is-number .ensures)
 
 pub in-range-spec : {M : Type 1} → statement M
 in-range-spec =
@@ -164,6 +167,7 @@ in-range-spec =
     enum-known-self-12
     floor-in-range-requires
     enum-known-self-13
+    is-number-requires
     returns
     returns-2
     returns-3

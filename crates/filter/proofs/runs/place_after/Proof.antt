@@ -5,10 +5,10 @@ use Prim.Native.Nat.{ℕ}
 use Rattle.units.specs.declared.estimate.Estimate.{Estimate}
 use Rattle.filter.specs.declared.run.Outcome.{Outcome}
 use Rattle.filter.specs.Run.{outcome, after}
-use Rattle.filter.specs.Step.{place}
+use Rattle.filter.specs.Runs.{place}
 use borrow.Author.Needs.{needs}
-use Rattle.filter.proofs.step.place_after.Statement.{statement}
-use Rattle.filter.proofs.step.place_after.Tie as tie
+use Rattle.filter.proofs.runs.place_after.Statement.{statement}
+use Rattle.filter.proofs.runs.place_after.Tie as tie
 
 module _ (e : Estimate) (n q r : ℕ) (chosen : Bool) (raw factor : ℕ) (used : Bool) where
   a-run : (o : Outcome) (next : Estimate) → used ≡ true → o ≡ outcome e n q r chosen raw factor → next ≡ after e o → next ≡ place used e n q r chosen raw factor

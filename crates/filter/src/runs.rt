@@ -1,6 +1,6 @@
 // All sixteen places of a state after a round.
 ghost use mathlib.Core.Path.{_≡_};
-ghost use Rattle.filter.specs.Step.{place, stepped};
+ghost use Rattle.filter.specs.Runs.{place, runsAfter};
 use crate::run::run;
 use crate::run::settle;
 use units::Estimate;
@@ -28,14 +28,14 @@ fn place_after(
     }
 }
 
-pub fn step(
+pub(crate) fn runs_after(
     state: [Estimate; 16],
     n: u32,
     numbers: Numbers,
     chosen: u32,
     readings: [u32; 16],
 ) -> [Estimate; 16]
-    ensures { λ s. ⌜ s ≡ stepped state n numbers chosen readings ⌝ }
+    ensures { λ s. ⌜ s ≡ runsAfter state n numbers chosen readings ⌝ }
 {
     let m = numbers.group.m;
     let q = numbers.q;

@@ -1,13 +1,13 @@
 -- `tab`, the list of a function's values, and a loop that fills an array with it from the front. Assumes nothing.
 use mathlib.Core.Path.{_≡_, refl, sym, _∙_, ap, subst}
-use mathlib.Core.List.{List}
+use mathlib.Core.List.{List, _∷_}
 use Prim.Native.Nat.{ℕ, zero, suc, _+_, _<_, _≤_}
 use native.Mathlib.Nat.{add-zero, zero-add, add-suc, suc-add, le-of-suc-le-suc, not-suc-le-zero, ne-of-lt, ne-of-gt, le-of-lt, lt-of-lt-of-le}
 use native.Mathlib.Numerals.{lt-add-one}
 use borrow.Author.Count.{below-none, below-more}
 use lib.ListN.{length, getD, set, length-set}
 use lib.Seq.{getD-set-same, getD-set-other, ext-getD}
-use Rattle.filter.specs.Step.{tab}
+use Rattle.units.specs.Tab.{tab}
 
 module _ {A : Type 0} (f : ℕ → A) where
   pub length-tab : (i k : ℕ) → length (tab f i k) ≡ k
@@ -44,3 +44,9 @@ module _ {A : Type 0} (f : ℕ → A) where
 
   pub fill-done : (d : A) (k : ℕ) (xs₀ xs : List A) (i : ℕ) → Filled d k xs₀ xs i → k ≤ i → xs ≡ tab f 0 k
   fill-done d k xs₀ xs i h b = is-tab d k xs (h .0) (λ j c. h .1 j (lt-of-lt-of-le c b))
+
+-- functions that agree give one list
+pub tab-same : {A : Type 0} (f g : ℕ → A) (i k : ℕ) → ((j : ℕ) → f j ≡ g j) → tab f i k ≡ tab g i k
+unfolding tab
+tab-same f g i zero h = refl
+tab-same f g i (suc k) h = λ t. h i t ∷ tab-same f g (suc i) k h t

@@ -4,10 +4,10 @@ use native.Mathlib.Omega.{arith}
 use mathlib.Core.Path.{sym}
 use lib.ListN.{length}
 use lib.Seq.{set-out}
 use Rattle.vote.specs.declared.votes.Ballot.the-variants.{Cast}
 use borrow.Author.Needs.{needs}
-use Rattle.controller.proofs.apply.put_vote.Statement.{statement}
-use Rattle.controller.proofs.apply.put_vote.Tie as tie
+use Rattle.vote.proofs.votes.put_vote.Statement.{statement}
+use Rattle.vote.proofs.votes.put_vote.Tie as tie
 
 mul-next : tie.Need-mul-next
 mul-next c = search needs

@@ -1,4 +1,4 @@
--- `step` meets its contract: after i places those below i are stepped and the others are as they were. Assumes nothing.
+-- `runs_after` meets its contract: after i places those below i are as after the round, and the others are as they were. Assumes nothing.
 use mathlib.Core.Path.{_≡_}
 use mathlib.Core.List.{List}
 use mathlib.Core.Bool.{Bool}
@@ -11,21 +11,21 @@ use Rattle.units.specs.declared.estimate.Estimate.{Estimate}
 use Rattle.units.specs.declared.settings.Numbers.{Numbers}
 use Rattle.units.specs.Mask.{inMask}
 use Rattle.floats.specs.Ranges.{noEstimate}
-use Rattle.filter.specs.Step.{place, stepAt, stepped}
-use Rattle.filter.proofs.Tab.{Filled, fill-none, fill-more, fill-done}
+use Rattle.filter.specs.Runs.{place, runAfter, runsAfter}
+use Rattle.units.proofs.Tab.{Filled, fill-none, fill-more, fill-done}
 use borrow.Author.Needs.{needs}
-use Rattle.filter.proofs.step.step.Statement.{statement}
-use Rattle.filter.proofs.step.step.Tie as tie
+use Rattle.filter.proofs.runs.runs_after.Statement.{statement}
+use Rattle.filter.proofs.runs.runs_after.Tie as tie
 
--- what the code makes of place i is what `stepAt` says
+-- what the code makes of place i is what `runAfter` says
 made : (state next : List Estimate) (n : ℕ) (s : Numbers) (chosen : ℕ) (readings : List ℕ) (i : ℕ) (b : Bool) (e : Estimate)
     → getD next i noEstimate ≡ getD state i noEstimate → b ≡ inMask chosen i
     → e ≡ place (ltb i (s .group .m)) (getD next i noEstimate) n (s .q) (s .r) b (getD readings i 0) (getD (s .factors) i 0)
-    → e ≡ stepAt state n s chosen readings i
+    → e ≡ runAfter state n s chosen readings i
 made state next n s chosen readings i b e p q h = cc
 
 abbrev Inv-loop : tie.InvT-loop
-Inv-loop n chosen numbers readings m q r next₀ i₀ next i = (i ≤ 16) × Filled (stepAt next₀ n numbers chosen readings) noEstimate 16 next₀ next i
+Inv-loop n chosen numbers readings m q r next₀ i₀ next i = (i ≤ 16) × Filled (runAfter next₀ n numbers chosen readings) noEstimate 16 next₀ next i
 
 abbrev μ-loop : tie.MeasureT-loop
 μ-loop n chosen numbers readings m q r next₀ i₀ next i = 16 - i
@@ -80,11 +80,11 @@ loop-again c =
     )
 
 returns : tie.Need-returns Inv-loop μ-loop
-unfolding stepped
+unfolding runsAfter
 returns c = fill-done _ noEstimate 16 (c .before .before .args .state) (c .before .loop .next) (c .before .loop .i) (c .before .loop .inv .1) (c .loop-test .left)
 
-pub step-spec : {M : Type 1} → statement M
-step-spec =
+pub runs-after-spec : {M : Type 1} → statement M
+runs-after-spec =
     tie.close
     (tie.spec
     Inv-loop
