@@ -30,6 +30,12 @@ const FIELDS: &[&[u8]] = &[
     b"3",
     b"6",
     b"7",
+    b"8",
+    b"16",
+    b"17",
+    b"999",
+    b"1000",
+    b"1001",
     b"00",
     b"01",
     b"007",
@@ -266,17 +272,121 @@ impl List {
         self.say(&format!("refused {SETTINGS} {} 2\n", lines.len() + 1));
     }
 
-    /// The settings' lines as they are written, and no others, of 20 that are asked for from 0 on.
+    /// The settings' lines as they are written, and no others, of 20 that are asked for from 0 on, and of the last number that can be.
     fn settings_back(&mut self, lines: &[Vec<u8>]) {
-        for k in 0..20usize {
+        for k in (0..20).chain([u32::MAX as usize]) {
             match k.checked_sub(1).and_then(|k| lines.get(k)) {
-                Some(line) => {
-                    self.answers.extend(line);
-                    self.say("#\n");
-                }
+                Some(line) => self.written(line),
                 None => self.say(&format!("refused {RANGE}\n")),
             }
         }
+    }
+
+    /// A message X of a number, handed over as a value, written as a message and from its head alone.
+    fn refusal(&mut self, number: u32) {
+        self.entry(b'X', 2, number.to_string().as_bytes());
+        for _ in 0..2 {
+            match number {
+                1..=16 => {
+                    let mut back = Vec::new();
+                    line::write_refusal(number as u8, &mut back);
+                    self.written(&back);
+                }
+                _ => self.say(&format!("refused {RANGE}\n")),
+            }
+        }
+    }
+
+    /// The settings read last with one place of them changed, handed over as a value.
+    fn changed(&mut self, settings: &Values, place: u8, i: usize, j: usize, n: u32) {
+        self.entry(b'W', 0, format!("{}{i:02}{j:02}{n}", place as char).as_bytes());
+        let mut next = settings.clone();
+        match place {
+            b'g' => next.g = n,
+            b'm' => next.m = n,
+            b'q' => next.q = n,
+            b'r' => next.r = n,
+            b'p' => next.p = n,
+            b'f' => next.factors[i] = n,
+            b'w' => next.weights[i] = n,
+            b'l' => next.certificates[i].0 = n as usize,
+            _ => next.certificates[i].1[j] = n as u8,
+        }
+        let lines = if next.in_range() { next.lines() } else { Vec::new() };
+        self.settings_back(&lines);
+    }
+}
+
+/// Settings as a value, certificates with them: how many bytes, and sixteen places for them.
+#[derive(Clone)]
+struct Values {
+    g: u32,
+    m: u32,
+    q: u32,
+    r: u32,
+    p: u32,
+    factors: [u32; RUNS],
+    weights: [u32; RUNS],
+    certificates: [(usize, [u8; RUNS]); RUNS],
+}
+
+impl Values {
+    /// The values of `settings_of` these numbers.
+    fn of(g: u32, m: u32) -> Values {
+        let mut all = Values {
+            g,
+            m,
+            q: 4,
+            r: 100,
+            p: 10000,
+            factors: [0; RUNS],
+            weights: [0; RUNS],
+            certificates: [(0, [0; RUNS]); RUNS],
+        };
+        for run in 0..m as usize {
+            let certificate = format!("NMI-{run:04}");
+            all.factors[run] = [10047, 9000, 11000][run % 3];
+            all.weights[run] = 1000 - run as u32;
+            all.certificates[run].0 = certificate.len();
+            all.certificates[run].1[..certificate.len()].copy_from_slice(certificate.as_bytes());
+        }
+        all
+    }
+
+    /// Document 01's table of quantities, and its certificates; a place that is no run, and a byte that is none of a certificate, is blank.
+    fn in_range(&self) -> bool {
+        let numbers = (1..=7).contains(&self.g)
+            && (1..=16).contains(&self.m)
+            && (1..=1_000_000).contains(&self.q)
+            && (1..=1_000_000).contains(&self.r)
+            && (1..=1_000_000_000).contains(&self.p);
+        numbers && (0..RUNS).all(|run| if run < self.m as usize { self.run_in_range(run) } else { self.blank(run) })
+    }
+
+    fn run_in_range(&self, run: usize) -> bool {
+        let (len, bytes) = self.certificates[run];
+        (9000..=11000).contains(&self.factors[run])
+            && (1..=1000).contains(&self.weights[run])
+            && (1..=16).contains(&len)
+            && (0..RUNS).all(|j| if j < len { (0x21..=0x7E).contains(&bytes[j]) } else { bytes[j] == 0 })
+    }
+
+    fn blank(&self, run: usize) -> bool {
+        self.factors[run] == 0 && self.weights[run] == 0 && self.certificates[run] == (0, [0; RUNS])
+    }
+
+    fn lines(&self) -> Vec<Vec<u8>> {
+        let mut texts = vec![
+            format!("G\t{}\t{}\n", self.g, self.m).into_bytes(),
+            format!("N\t{}\t{}\t{}\n", self.q, self.r, self.p).into_bytes(),
+        ];
+        for run in 0..self.m as usize {
+            let (len, bytes) = self.certificates[run];
+            let factor = format!("{}.{:04}", self.factors[run] / 10000, self.factors[run] % 10000);
+            let last = format!("\t{factor}\t{}\n", self.weights[run]);
+            texts.push([format!("K\t{run}\t").as_bytes(), &bytes[..len], last.as_bytes()].concat());
+        }
+        texts
     }
 }
 
@@ -491,12 +601,57 @@ fn settings(list: &mut List) {
     }
 }
 
+/// Settings handed over as values: each rule at its ends and broken alone, in places that are used and in places that are not.
+fn values(list: &mut List) {
+    for (g, m) in [(3, 2), (7, 16)] {
+        let good = settings_of(g, m);
+        let values = Values::of(g, m);
+        assert!(values.in_range() && values.lines() == good);
+        list.settings(&good);
+        for n in [0, 1, 2, 7, 8, u32::MAX] {
+            list.changed(&values, b'g', 0, 0, n);
+        }
+        for n in [0, 1, m, 3, 16, 17, u32::MAX] {
+            list.changed(&values, b'm', 0, 0, n);
+        }
+        for place in *b"qrp" {
+            for n in [0, 1, 1_000_000, 1_000_001, 1_000_000_000, 1_000_000_001, u32::MAX] {
+                list.changed(&values, place, 0, 0, n);
+            }
+        }
+        for run in [0, 1, 2, 15] {
+            for n in [0, 1, 8999, 9000, 10000, 11000, 11001, u32::MAX] {
+                list.changed(&values, b'f', run, 0, n);
+            }
+            for n in [0, 1, 1000, 1001, u32::MAX] {
+                list.changed(&values, b'w', run, 0, n);
+            }
+            for n in [0, 1, 7, 8, 9, 16, 17] {
+                list.changed(&values, b'l', run, 0, n);
+            }
+            for place in [0, 7, 8, 15] {
+                for n in [0, 0x20, 0x21, 0x7E, 0x7F, 0xFF] {
+                    list.changed(&values, b'b', run, place, n);
+                }
+            }
+        }
+    }
+}
+
+fn refusals(list: &mut List) {
+    for number in (0..=20).chain([255, 256, 65536 + 5, u32::MAX]) {
+        list.refusal(number);
+    }
+}
+
 fn main() -> std::io::Result<()> {
     let folder = std::env::args().nth(1).unwrap_or("crates/line_vectors".to_string());
     let mut list = List { input: Vec::new(), answers: Vec::new(), count: 0, seen: BTreeSet::new() };
     messages(&mut list);
     drawn_messages(&mut list, &mut Random::new(1, 0));
     settings(&mut list);
+    refusals(&mut list);
+    values(&mut list);
     for kind in *b"MQRAUDSCEVFB" {
         for answer in 0..=6 {
             assert!(list.seen.contains(&(kind, answer)), "no line of kind {} is answered with {answer}", kind as char);

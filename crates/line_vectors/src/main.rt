@@ -1,6 +1,7 @@
 // Reads a list of lines, good and bad, and writes what each is and how it is written back, to be compared with a second program's (tests/lines/vectors.rs).
 // Before each line stand seven bytes: what it is for, m in two digits, its length in three digits, a line feed.
-// It is for a group of g controllers, for the settings (S), to begin the settings anew (Z) or for input that ends within them (T).
+// It is for a group of g controllers, for the settings (S), to begin the settings anew (Z) or for input that ends within them (T);
+// or it says what is handed over as a value: a number of X (X), or a place of the settings read last that is changed (W).
 ghost use Prim.Native.Nat.{_≤_};
 use floats::bits::bits_of;
 use libc::STDIN_FILENO;
@@ -12,12 +13,14 @@ use lines::settle::Settled;
 use lines::settle::Settling;
 use lines::write::Written;
 use lines::write::write;
+use lines::write::write_plain;
 use message::Certificate;
 use message::Head;
 use message::Message;
 use message::Settings;
 use units::Estimate;
 use units::Group;
+use units::Numbers;
 use units::Refusal;
 use units::limits::RUNS;
 use vote::Digest;
@@ -188,7 +191,11 @@ fn tell_short(message: Message, group: Group, out: &mut [u8], room: usize) {
     if out.len() < room {
         return;
     }
-    match write(message, group, &mut out[..room]) {
+    tell_room(write(message, group, &mut out[..room]));
+}
+
+fn tell_room(written: Written) {
+    match written {
         Written::Done { len } => {
             say(b"written");
             tell(len as u64);
@@ -196,6 +203,36 @@ fn tell_short(message: Message, group: Group, out: &mut [u8], room: usize) {
         }
         Written::Refused(why) => tell_refusal(why),
     }
+}
+
+// The same from the head alone.
+fn tell_plain(head: Head, group: Group) {
+    let mut out = [b'#'; 602];
+    match write_plain(head, group, &mut out) {
+        Written::Done { len } => {
+            if len < 602 {
+                say_first(&out, len + 1);
+                say(b"\n");
+                tell_short_plain(head, group, &mut out, one_less(len));
+            }
+        }
+        Written::Refused(why) => tell_refusal(why),
+    }
+}
+
+fn tell_short_plain(head: Head, group: Group, out: &mut [u8], room: usize) {
+    if out.len() < room {
+        return;
+    }
+    tell_room(write_plain(head, group, &mut out[..room]));
+}
+
+// A message X of a number.
+fn tell_x(number: u32, m: usize) {
+    let head = Head::Refused { number };
+    let group = Group { g: 3, m };
+    tell_written(Message::plain(head), group);
+    tell_plain(head, group);
 }
 
 fn tell_line(line: &[u8], group: Group) {
@@ -248,7 +285,7 @@ fn tell_settings(settings: Settings) {
     say(b"\n");
 }
 
-// Line k of the settings, with the byte past it, as it is written.
+// Line k of the settings, with the byte past it, as it is written; then what a buffer that is one byte shorter leads to.
 fn tell_setting(settings: Settings, k: u32) {
     let mut out = [b'#'; 602];
     match write_setting(settings, k, &mut out) {
@@ -256,19 +293,28 @@ fn tell_setting(settings: Settings, k: u32) {
             if len < 602 {
                 say_first(&out, len + 1);
                 say(b"\n");
+                tell_short_setting(settings, k, &mut out, one_less(len));
             }
         }
         Written::Refused(why) => tell_refusal(why),
     }
 }
 
-// All lines that settings can have, and one at either end that none has.
+fn tell_short_setting(settings: Settings, k: u32, out: &mut [u8], room: usize) {
+    if out.len() < room {
+        return;
+    }
+    tell_room(write_setting(settings, k, &mut out[..room]));
+}
+
+// All lines that settings can have, one at either end that none has, and the last number that can be asked for.
 fn tell_lines(settings: Settings) {
     let mut k = 0u32;
     while k < 20 {
         tell_setting(settings, k);
         k += 1;
     }
+    tell_setting(settings, 4294967295);
 }
 
 fn tell_settled(settled: Settled) {
@@ -297,6 +343,94 @@ fn number(hundreds: u8, tens: u8, ones: u8) -> usize
     digit(hundreds) * 100 + digit(tens) * 10 + digit(ones)
 }
 
+// The decimal number from a place of a line to its end.
+fn number_from(line: &[u8], from: usize) -> u32 {
+    let mut n = 0u64;
+    let mut i = from;
+    while i < line.len() {
+        n = n % 4294967296 * 10 + digit(line[i]) as u64;
+        i += 1;
+    }
+    (n % 4294967296) as u32
+}
+
+// The numbers of settings with one of them changed, at run i where there is one for each run.
+fn with_number(numbers: Numbers, place: u8, i: usize, n: u32) -> Numbers {
+    let mut next = numbers;
+    let old = numbers.group;
+    match place {
+        b'g' => {
+            let group = Group {
+                g: n as usize,
+                m: old.m,
+            };
+            next.group = group;
+        }
+        b'm' => {
+            let group = Group {
+                g: old.g,
+                m: n as usize,
+            };
+            next.group = group;
+        }
+        b'q' => {
+            next.q = n;
+        }
+        b'r' => {
+            next.r = n;
+        }
+        b'p' => {
+            next.p = n;
+        }
+        b'f' => {
+            next.factors[i % RUNS] = n;
+        }
+        _ => {
+            next.weights[i % RUNS] = n;
+        }
+    }
+    next
+}
+
+// A certificate with its length or one of its bytes changed.
+fn with_byte(certificate: Certificate, place: u8, j: usize, n: u32) -> Certificate {
+    let mut next = certificate;
+    if place == b'l' {
+        next.len = n as usize;
+        return next;
+    }
+    next.bytes[j % RUNS] = (n % 256) as u8;
+    next
+}
+
+// Settings with one place changed.
+fn changed(settings: Settings, place: u8, i: usize, j: usize, n: u32) -> Settings {
+    let mut certificates = settings.certificates;
+    let numbers = settings.numbers;
+    if (place == b'l') | (place == b'b') {
+        let old = certificates[i % RUNS];
+        certificates[i % RUNS] = with_byte(old, place, j, n);
+        return Settings {
+            numbers,
+            certificates,
+        };
+    }
+    Settings {
+        numbers: with_number(numbers, place, i, n),
+        certificates,
+    }
+}
+
+// A line that names a place by its letter, a run and a byte in two digits each, and the number to stand there.
+fn tell_changed(settings: Settings, line: &[u8]) {
+    if line.len() < 6 {
+        return;
+    }
+    let i = number(b'0', line[1], line[2]);
+    let j = number(b'0', line[3], line[4]);
+    tell_lines(changed(settings, line[0], i, j, number_from(line, 5)));
+}
+
 // What a line of the list is for; the settings after it.
 fn take(what: u8, m: usize, line: &[u8], settling: Settling) -> Settling {
     match what {
@@ -309,6 +443,14 @@ fn take(what: u8, m: usize, line: &[u8], settling: Settling) -> Settling {
         }
         b'T' => {
             tell_refusal(settling.ended());
+            settling
+        }
+        b'X' => {
+            tell_x(number_from(line, 0), m);
+            settling
+        }
+        b'W' => {
+            tell_changed(settling.settings(), line);
             settling
         }
         _ => {

@@ -23,3 +23,4 @@ pub mod RoundTrip
 pub mod Refusing
 pub mod SettingTrip
 pub mod WholeSettings
+pub mod Answers

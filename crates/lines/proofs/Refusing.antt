@@ -60,10 +60,10 @@ module _ (p : List ℕ) (l : length p ≤ lineTop) (e : lacks lineFeed p ≡ tru
   settle-unended st = sym (line-open st p (stopped st Unended) l (scanned p) refl not-last refl)
 
 -- THE READER REFUSES BY 1 TO 6
-abbrev Early : Refusal → Type 0
+abbrev pub Early : Refusal → Type 0
 Early why = within 1 6 (numberOf why) ≡ true
 
-abbrev GotEarly : Got → Type 0
+abbrev pub GotEarly : Got → Type 0
 GotEarly (values vs) = Unit {0}
 GotEarly (stop why) = Early why
 
@@ -90,7 +90,7 @@ rest-early : (kind : Kind) (s : Group) (fs : List (List ℕ)) (g : Got) → GotE
 rest-early kind s fs (values us) h = pick-early _ _ _ (all-early (limitAfter kind s) us (drop (countOf kind s 0) fs)) refl
 rest-early kind s fs (stop why) h = h
 
-values-early : (kind : Kind) (s : Group) (fs : List (List ℕ)) → GotEarly (readValues kind s fs)
+pub values-early : (kind : Kind) (s : Group) (fs : List (List ℕ)) → GotEarly (readValues kind s fs)
 unfolding readValues
 values-early kind s fs = pick-early _ _ _ (rest-early kind s fs (readAll (limitAfter kind s) [] (take (countOf kind s 0) fs)) (all-early (limitAfter kind s) [] (take (countOf kind s 0) fs))) refl
 

@@ -316,7 +316,7 @@ runs-only (l ∷ ls) us i st end r b e =
     (λ t. refused-end (settleAll ls) (settleLine st l .next) end (settleLine st l .answer) t e)
 
 -- THE FIRST TWO LINES
-sizes-fit : (vs : List ℕ) → Fit Sizes anyGroup vs → (length vs ≡ 2) × (groupFits (record { g = getD vs 0 0; m = getD vs 1 0 }) ≡ true)
+pub sizes-fit : (vs : List ℕ) → Fit Sizes anyGroup vs → (length vs ≡ 2) × (groupFits (record { g = getD vs 0 0; m = getD vs 1 0 }) ≡ true)
 unfolding countOf quantityAt limitFor
 sizes-fit vs f =
     let n : length vs ≡ 2 = f .counted in

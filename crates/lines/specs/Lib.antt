@@ -8,3 +8,4 @@ pub mod Straight
 pub mod Writing
 pub mod Settling
 pub mod Settings
+pub mod Answers
