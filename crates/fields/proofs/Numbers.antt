@@ -18,7 +18,7 @@ use Rattle.fields.specs.declared.digit.Digits.the-variants.{Said, Wrong}
 use Rattle.fields.proofs.Cases.{by-test, by-lt, absurd-by}
 
 -- A DIGIT AND ITS BYTE
-pub char-digit : (c : ℕ) → digitOf c < 16 → charOf (digitOf c) ≡ c
+char-digit : (c : ℕ) → digitOf c < 16 → charOf (digitOf c) ≡ c
 unfolding digitOf charOf
 char-digit c =
     by-lt c 48 (λ h. rw (lt-ltb c 48 h) (λ k. absurd (omega arith)))

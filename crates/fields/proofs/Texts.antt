@@ -67,7 +67,7 @@ field-next text i h n = rw (add-one, drop-cons text i 0 h, ne-eqb (getD text i 0
 pub first-is : (f rest : List ℕ) → lacks 9 f ≡ true → ends rest ≡ true → firstField (f ++ rest) ≡ f
 first-is f rest p q = until-append 9 f rest p ∙ rw (first-none rest q) (append-nil f)
 
-pub tabbed-ends : (fs : List (List ℕ)) → ends (tabbed fs) ≡ true
+tabbed-ends : (fs : List (List ℕ)) → ends (tabbed fs) ≡ true
 unfolding ends tabbed
 tabbed-ends [] = refl
 tabbed-ends (f ∷ fs) = refl
@@ -130,14 +130,14 @@ first-last (c ∷ cs) = by-test (eqb c 9) (λ t. rw t (λ h. absurd (omega arith
 
 module _ (text : List ℕ) (at : ℕ) where
   -- where a tab stands before the next place, the fields go on there
-  pub cursor-tab : nextAt text at ≤ length text → fieldsOf (drop at text) ≡ fieldAt text at ∷ fieldsOf (drop (nextAt text at) text)
+  cursor-tab : nextAt text at ≤ length text → fieldsOf (drop at text) ≡ fieldAt text at ∷ fieldsOf (drop (nextAt text at) text)
   cursor-tab h =
       let l = length-drop at text in
       let q : nextAt text at ≡ at + suc (length (fieldAt text at)) = omega arith in
       rw (q, ← drop-drop (suc (length (fieldAt text at))) at text) (ap {B = List (List ℕ)} (λ (fs : List (List ℕ)). fieldAt text at ∷ fs) (first-next (drop at text) (omega arith)))
 
   -- where it is past the end, the field was the last
-  pub cursor-last : length text < nextAt text at → fieldsOf (drop at text) ≡ fieldAt text at ∷ []
+  cursor-last : length text < nextAt text at → fieldsOf (drop at text) ≡ fieldAt text at ∷ []
   cursor-last h = let l = length-drop at text in ap {B = List (List ℕ)} (λ (fs : List (List ℕ)). fieldAt text at ∷ fs) (first-last (drop at text) (omega arith))
 
   module _ (k : ℕ) (inv : fieldsOf (drop at text) ≡ drop k (fieldsOf text)) where
@@ -147,7 +147,7 @@ module _ (text : List ℕ) (at : ℕ) where
         ap (λ (l : List (List ℕ)). getD l 0 []) inv ∙ getD-drop k (fieldsOf text) 0 [] ∙ (let z : k + 0 ≡ k = omega arith in ap (λ (n : ℕ). getD (fieldsOf text) n []) z)
 
     -- the next place is the start of field k + 1, where there is one
-    pub cursor-within : k + 1 < length (fieldsOf text) → nextAt text at ≤ length text
+    cursor-within : k + 1 < length (fieldsOf text) → nextAt text at ≤ length text
     cursor-within more = by-lt (length text) (nextAt text at)
         (λ h.
         let a = ap {B = ℕ} (λ (l : List (List ℕ)). length l) (sym (cursor-last h) ∙ inv) in

@@ -31,13 +31,23 @@ nibble-requires : tie.Need-nibble-requires Inv-loop μ-loop
 nibble-requires c κs = search needs
 
 mul-n : tie.Need-mul-n Inv-loop μ-loop
-mul-n c = let l = c .before .before .before .loop in let a = c .before .before .before .before .before .before .args in let g = sixteen-less _ _ _ _ _ (l .inv) (c .before .before .loop-test .taken) _ (c .nibble .ensures) in let f = sixteen-fits (l .i) (c .before .before .loop-test .taken) in omega arith
+mul-n c =
+    let l = c .before .before .before .loop in
+    let a = c .before .before .before .before .before .before .args in
+    let g = sixteen-less _ _ _ _ _ (l .inv) (c .before .before .loop-test .taken) _ (c .nibble .ensures) in
+    let f = sixteen-fits (l .i) (c .before .before .loop-test .taken) in
+    omega arith
 
 cast-n : tie.Need-cast-n Inv-loop μ-loop
 cast-n c = omega arith
 
 add-n : tie.Need-add-n Inv-loop μ-loop
-add-n c = let l = c .before .before .before .loop in let a = c .before .before .before .before .before .before .args in let g = sixteen-less _ _ _ _ _ (l .inv) (c .before .before .loop-test .taken) _ (c .nibble .ensures) in let f = sixteen-fits (l .i) (c .before .before .loop-test .taken) in omega arith
+add-n c =
+    let l = c .before .before .before .loop in
+    let a = c .before .before .before .before .before .before .args in
+    let g = sixteen-less _ _ _ _ _ (l .inv) (c .before .before .loop-test .taken) _ (c .nibble .ensures) in
+    let f = sixteen-fits (l .i) (c .before .before .loop-test .taken) in
+    omega arith
 
 larger-requires : tie.Need-larger-requires Inv-loop μ-loop
 larger-requires c κs = search needs

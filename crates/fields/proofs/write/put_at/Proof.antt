@@ -36,7 +36,11 @@ enum-told-3 : tie.Need-enum-told-3
 enum-told-3 c = search needs
 
 put-float-requires : tie.Need-put-float-requires
-put-float-requires c κs = let a = c .before .before .before .before .before .before .before .before .before .args in float-room (a .spelling) (a .n) _ (c .before .before .before .before .before .before .before .limit .ensures) (c .before .before .before .before .before .before .if1 .left) _ (c .before .before .before .before .before .width .ensures) (c .before .enum-told3 .given .1) _ (a .at) (a .buf .now) (c .before .before .before .before .has-room .ensures) (c .before .before .before .if2 .left)
+put-float-requires c κs =
+    let a = c .before .before .before .before .before .before .before .before .before .args in
+    float-room (a .spelling) (a .n) _ (c .before .before .before .before .before .before .before .limit .ensures) (c .before .before .before .before .before .before .if1 .left) _
+    (c .before .before .before .before .before .width .ensures) (c .before .enum-told3 .given .1) _ (a .at) (a .buf .now) (c .before .before .before .before .has-room .ensures)
+    (c .before .before .before .if2 .left)
 
 enum-told-4 : tie.Need-enum-told-4
 enum-told-4 c = search needs
@@ -68,7 +72,12 @@ same-length-3 : tie.Need-same-length-3
 same-length-3 c = search needs
 
 returns-5 : tie.Need-returns-5
-returns-5 c = let a = c .before .before .before .before .before .before .before .before .before .before .before .before .args in float-put (a .spelling) (a .n) _ (c .before .before .before .before .before .before .before .before .before .before .limit .ensures) (c .before .before .before .before .before .before .before .before .before .if1 .left) _ (c .before .before .before .before .before .before .before .before .width .ensures) (c .before .before .before .before .enum-told3 .given .1) _ (a .at) (a .buf .now) (c .before .before .before .before .before .before .before .has-room .ensures) (c .before .before .before .before .before .before .if2 .left) _ _ (c .before .before .put-float .ensures .0) (c .before .before .put-float .ensures .1)
+returns-5 c =
+    let a = c .before .before .before .before .before .before .before .before .before .before .before .before .args in
+    float-put (a .spelling) (a .n) _ (c .before .before .before .before .before .before .before .before .before .before .limit .ensures)
+    (c .before .before .before .before .before .before .before .before .before .if1 .left) _ (c .before .before .before .before .before .before .before .before .width .ensures)
+    (c .before .before .before .before .enum-told3 .given .1) _ (a .at) (a .buf .now) (c .before .before .before .before .before .before .before .has-room .ensures)
+    (c .before .before .before .before .before .before .if2 .left) _ _ (c .before .before .put-float .ensures .0) (c .before .before .put-float .ensures .1)
 
 same-length-4 : tie.Need-same-length-4
 same-length-4 c = search needs

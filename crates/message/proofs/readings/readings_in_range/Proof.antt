@@ -41,7 +41,9 @@ loop-less : tie.Need-loop-less Inv-loop μ-loop
 loop-less c = omega arith
 
 loop-again : tie.Need-loop-again Inv-loop μ-loop
-loop-again c = let a = c .before .before .before .before .args in (omega arith, every-more (readingAt (a .mask) (a .t2)) _ _ _ (c .before .before .before .loop .inv .1) (c .place-in-range .ensures ∙ ap (λ (t : Bool). readingPlace t (getD (a .t2) (c .before .before .before .loop .i) 0)) (c .before .has .ensures)))
+loop-again c =
+    let a = c .before .before .before .before .args in
+    (omega arith, every-more (readingAt (a .mask) (a .t2)) _ _ _ (c .before .before .before .loop .inv .1) (c .place-in-range .ensures ∙ ap (λ (t : Bool). readingPlace t (getD (a .t2) (c .before .before .before .loop .i) 0)) (c .before .has .ensures)))
 
 returns : tie.Need-returns Inv-loop μ-loop
 unfolding readingsFit

@@ -26,7 +26,10 @@ put-part-requires-2 : tie.Need-put-part-requires-2
 put-part-requires-2 c κs = search needs
 
 returns : tie.Need-returns
-returns c = let a = c .before .before .before .before .before .before .before .args in let f = c .before .before .before .before .fitting in held-made (a .self) (a .n) (f .result) _ (a .input .now) (a .input .now) _ (f .ensures) (sym (take-all (f .result) (a .input .now) (omega arith))) (c .before .put-part .ensures .0) (c .before .put-part .ensures .1)
+returns c =
+    let a = c .before .before .before .before .before .before .before .args in
+    let f = c .before .before .before .before .fitting in
+    held-made (a .self) (a .n) (f .result) _ (a .input .now) (a .input .now) _ (f .ensures) (sym (take-all (f .result) (a .input .now) (omega arith))) (c .before .put-part .ensures .0) (c .before .put-part .ensures .1)
 
 returns-2 : tie.Need-returns-2
 returns-2 c = let a = c .before .before .before .before .before .before .before .before .args in held-made (a .self) (a .n) _ _ (a .input .now) _ _ (c .before .before .before .before .before .fitting .ensures) refl (c .before .put-part2 .ensures .0) (c .before .put-part2 .ensures .1)

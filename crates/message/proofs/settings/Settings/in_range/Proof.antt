@@ -32,7 +32,13 @@ in-range-requires : tie.Need-in-range-requires Inv-loop μ-loop
 in-range-requires c κs = search needs
 
 loop-holds : tie.Need-loop-holds Inv-loop μ-loop
-loop-holds c = let v = c .before .before .args .t1 in let g = c .before .before .good in let x : length (v .numbers .factors) ≡ 16 = search (g, length-mapped) in let y : length (v .numbers .weights) ≡ 16 = search (g, length-mapped) in let z : length (v .certificates) ≡ 16 = search (g, length-mapped) in (omega arith, headed v _ (c .in-range .ensures) x y z ∙ every-none (certificateAt v) _)
+loop-holds c =
+    let v = c .before .before .args .t1 in
+    let g = c .before .before .good in
+    let x : length (v .numbers .factors) ≡ 16 = search (g, length-mapped) in
+    let y : length (v .numbers .weights) ≡ 16 = search (g, length-mapped) in
+    let z : length (v .certificates) ≡ 16 = search (g, length-mapped) in
+    (omega arith, headed v _ (c .in-range .ensures) x y z ∙ every-none (certificateAt v) _)
 
 mul-certificate : tie.Need-mul-certificate Inv-loop μ-loop
 mul-certificate c = search needs
