@@ -2,4 +2,5 @@
 pub mod Ranges
 pub mod Plain
 pub mod Views
+pub mod InRange
 mod Lengths

@@ -4,3 +4,4 @@ pub mod View
 pub mod Readings
 pub mod Message
 pub mod Settings
+pub mod InRange
