@@ -1,4 +1,5 @@
 //! A second controller, written from document 01's text alone, led through the chain of crates/controller_chains.
+//! Then states and settings with one thing changed at a time are handed to a step, and starts are tried: each is in range, or 6 by a clause of document 01.
 //! It makes the stdout that crate is held to:
 //!     rustc --edition 2021 -O tests/controller/chains.rs -o target/tests/chains && target/tests/chains > crates/controller_chains/stdout
 
@@ -120,6 +121,99 @@ const CHAIN: [(&str, [u32; 4]); 106] = [
     ("F", [4294967295, 0, 0, 0]),
     ("D", [0, 4294967295, 1, 4]), // two of three: S
     ("M", [4294967295, 0, 5, 0]), // late
+];
+
+/// The states and settings handed in: the phase that the state is in, what is changed in it, up to three values, and what that is.
+const CHANGED: [[u32; 5]; 72] = [
+    [0, 0, 0, 0, 0],           // in range, idle
+    [1, 0, 0, 0, 0],           // in range, collecting
+    [2, 0, 0, 0, 0],           // in range, pending
+    [3, 0, 0, 0, 0],           // in range, voting
+    [0, 1, 2, 0, 0],           // another number of the group
+    [0, 1, 3, 0, 0],           // own number g
+    [1, 2, 3, 0, 0],           // a vote's state label isn't below this label
+    [0, 2, 0, 0, 0],           // label 0: the vote isn't legal
+    [0, 2, 4294967295, 0, 0],  // the highest label
+    [1, 3, 4, 0, 0],           // a state label just below the label
+    [1, 3, 5, 0, 0],           // not idle, and the state label is the label
+    [2, 3, 6, 0, 0],           // not idle, and the state label is above it
+    [3, 3, 5, 0, 0],           // the same while voting
+    [0, 3, 4294967295, 0, 0],  // idle with the highest state label
+    [0, 10, 0, 0, 0],          // idle, no reading
+    [1, 10, 0, 0, 0],          // collecting, no reading
+    [2, 10, 0, 0, 0],          // pending, no reading
+    [3, 10, 0, 0, 0],          // voting, no reading
+    [1, 4, 1, 0, 0],           // run 1 has a reading and isn't held
+    [1, 4, 7, 0, 0],           // run 2 held, its reading 0
+    [1, 4, 11, 0, 0],          // a run held at m
+    [0, 4, 65539, 0, 0],       // a bit above sixteen runs
+    [1, 5, 1, 0, 0],           // a reading of 0
+    [1, 5, 0, 1000001, 0],     // a reading too large
+    [1, 5, 2, 5, 0],           // a reading of a run that isn't held
+    [1, 5, 3, 5, 0],           // a reading at m
+    [1, 5, 15, 5, 0],          // a reading at the last place
+    [0, 6, 0, 2, 0],           // x past its limit
+    [0, 6, 2, 5, 0],           // x is -0
+    [0, 6, 2, 6, 0],           // x is no number
+    [0, 6, 2, 7, 0],           // x is infinite
+    [0, 6, 2, 8, 0],           // x is below 0
+    [0, 6, 2, 0, 0],           // x is +0
+    [0, 7, 1, 4, 0],           // P past its limit
+    [0, 7, 2, 5, 0],           // P is -0
+    [0, 7, 2, 6, 0],           // P is no number
+    [0, 7, 2, 7, 0],           // P is infinite
+    [0, 7, 2, 3, 0],           // P at its limit
+    [0, 6, 3, 1, 0],           // an x at m
+    [0, 7, 15, 3, 0],          // a P at the last place
+    [0, 6, 3, 5, 0],           // -0 at m
+    [1, 8, 2, 4, 8],           // a vote for a run at m
+    [1, 8, 2, 5, 7],           // a vote whose state label is the label
+    [1, 8, 2, 4, 0],           // a vote for no run
+    [1, 8, 2, 0, 1],           // the least vote
+    [0, 8, 3, 4, 7],           // a vote at g
+    [0, 8, 6, 4, 7],           // a vote at the last seat
+    [1, 8, 0, 2, 3],           // its own vote while collecting
+    [2, 8, 0, 2, 3],           // its own vote while pending
+    [0, 8, 0, 2, 3],           // its own vote while idle
+    [3, 9, 0, 0, 0],           // no vote of its own while voting
+    [3, 8, 0, 4, 1],           // another vote of its own while voting
+    [0, 11, 8, 0, 0],          // eight controllers
+    [0, 11, 0, 0, 0],          // no controller
+    [0, 12, 17, 0, 0],         // seventeen runs
+    [0, 12, 0, 0, 0],          // no run
+    [0, 12, 2, 0, 0],          // two runs, and an estimate for a third
+    [0, 13, 0, 0, 0],          // q 0
+    [0, 13, 1000001, 0, 0],    // q too large
+    [0, 13, 1000000, 0, 0],    // the highest q
+    [0, 14, 0, 0, 0],          // r 0
+    [0, 14, 1000001, 0, 0],    // r too large
+    [0, 15, 0, 0, 0],          // p 0
+    [0, 15, 1000000001, 0, 0], // p too large
+    [0, 15, 1000000000, 0, 0], // the highest p
+    [0, 16, 0, 8999, 0],       // a factor too small
+    [0, 16, 0, 11001, 0],      // a factor too large
+    [0, 16, 3, 10000, 0],      // a factor at m
+    [0, 17, 0, 0, 0],          // weight 0
+    [0, 17, 0, 1001, 0],       // weight 1001
+    [0, 17, 0, 1000, 0],       // the highest weight
+    [0, 17, 15, 1, 0],         // a weight at the last place
+];
+
+/// The starts: what is changed in the settings and its value, own number, floor, and what that is.
+const STARTED: [[u32; 4]; 13] = [
+    [0, 0, 0, 0],           // own number 0, floor 0
+    [0, 0, 2, 7],           // the last number
+    [0, 0, 3, 0],           // own number g
+    [0, 0, 6, 0],           // a number that no group of three has
+    [0, 0, 2, 4294967295],  // the highest floor
+    [11, 8, 0, 0],          // eight controllers
+    [12, 17, 0, 0],         // seventeen runs
+    [13, 0, 0, 0],          // q 0
+    [14, 1000001, 0, 0],    // r too large
+    [15, 1000000001, 0, 0], // p too large
+    [15, 1000000000, 1, 9], // the highest p
+    [16, 8999, 0, 0],       // a factor too small
+    [17, 1001, 0, 0],       // weight 1001
 ];
 
 #[derive(Clone, Copy, PartialEq, Debug)]
@@ -453,6 +547,184 @@ impl Controller {
     }
 }
 
+// ---- what is in range of settings and states handed in as values, clause by clause
+
+#[derive(Clone)]
+struct Settings {
+    g: u32,
+    m: u32,
+    q: u32,
+    r: u32,
+    p: u32,
+    factors: [u32; 16],
+    weights: [u32; 16],
+}
+
+fn settings() -> Settings {
+    let of = |v: [u32; M]| std::array::from_fn(|i| if i < M { v[i] } else { 0 });
+    Settings { g: G as u32, m: M as u32, q: Q, r: R, p: P, factors: of(FACTORS), weights: of(WEIGHTS) }
+}
+
+/// Document 01's table; "entries not in use must be blank".
+fn settings_in_range(s: &Settings) -> bool {
+    let run = |i: usize| (9000..=11000).contains(&s.factors[i]) && (1..=1000).contains(&s.weights[i]);
+    let blank = |i: usize| s.factors[i] == 0 && s.weights[i] == 0;
+    (1..=7).contains(&s.g)
+        && (1..=16).contains(&s.m)
+        && (1..=1_000_000).contains(&s.q)
+        && (1..=1_000_000).contains(&s.r)
+        && (1..=1_000_000_000).contains(&s.p)
+        && (0..16).all(|i| if i < s.m as usize { run(i) } else { blank(i) })
+}
+
+/// A state as it is handed in: sixteen places and seven seats.
+#[derive(Clone)]
+struct State {
+    own: u32,
+    phase: Phase,
+    label: u32,
+    state: u32,
+    held: u32,
+    readings: [u32; 16],
+    estimates: [(f64, f64); 16],
+    votes: [Option<(u32, u32)>; 7],
+}
+
+/// Own number 0, label 5, state label 2, readings of runs 0 and 1, and the vote of 1; while voting its own vote too.
+fn sound(phase: Phase) -> State {
+    let mut readings = [0; 16];
+    readings[..2].copy_from_slice(&[1_000_000, 200]);
+    let mut estimates = [(0.0, 0.0); 16];
+    estimates[..3].copy_from_slice(&[(1_100_000.0, 5.0), (20.0, 1e9), (30.0, 7.0)]);
+    let mut votes = [None; 7];
+    votes[1] = Some((4, 7));
+    if phase == Phase::Voting {
+        votes[0] = Some((2, 3));
+    }
+    State { own: 0, phase, label: 5, state: 2, held: 3, readings, estimates, votes }
+}
+
+/// +0 to the limit: no NaN, no infinity, no set sign bit.
+fn float_in_range(v: f64, limit: f64) -> bool {
+    !v.is_nan() && v.is_sign_positive() && v <= limit
+}
+
+fn state_in_range(s: &Settings, c: &State) -> bool {
+    let m = s.m as usize;
+    let runs = 1u32 << m.min(16);
+    let busy = c.phase != Phase::Idle;
+    let own = c.votes.get(c.own as usize).copied().flatten();
+    // "own number 0..g-1"; labels are u32, so none is too large
+    c.own < s.g
+        // "estimate x, variance P"; blank at m and above
+        && c.estimates.iter().enumerate().all(|(i, (x, p))| {
+            if i < m {
+                float_in_range(*x, 1_100_000.0) && float_in_range(*p, 1e9)
+            } else {
+                x.to_bits() == 0 && p.to_bits() == 0
+            }
+        })
+        // runs below m, raws 0..1,000,000 where held, 0 elsewhere
+        && c.held < runs
+        && (0..16).all(|i| if c.held >> i & 1 == 1 { c.readings[i] <= 1_000_000 } else { c.readings[i] == 0 })
+        // "if a vote it holds isn't legal for its label", and a seat at g or above is nobody's
+        && c.votes.iter().enumerate().all(|(i, v)| {
+            v.is_none_or(|(state, mask)| (i as u32) < s.g && mask >= 1 && mask < runs && state < c.label)
+        })
+        // "if it isn't idle and holds no reading or a state label at or above its label"
+        && !(busy && (c.held == 0 || c.state >= c.label))
+        // "or its own vote while collecting or pending, or none of its own while voting"
+        && !((c.phase == Phase::Collecting || c.phase == Phase::Pending) && own.is_some())
+        && !(c.phase == Phase::Voting && own.is_none())
+}
+
+/// The floats that rows name: limits, and what lies past them.
+const FLOATS: [f64; 9] = [0.0, 1_100_000.0, 1_100_000.125, 1e9, 1_000_000_000.125, -0.0, f64::NAN, f64::INFINITY, -1.0];
+
+fn change_settings(s: &mut Settings, what: u32, a: u32, b: u32) {
+    match what {
+        11 => s.g = a,
+        12 => s.m = a,
+        13 => s.q = a,
+        14 => s.r = a,
+        15 => s.p = a,
+        16 => s.factors[a as usize] = b,
+        17 => s.weights[a as usize] = b,
+        _ => {}
+    }
+}
+
+fn change_state(c: &mut State, what: u32, a: u32, b: u32, d: u32) {
+    match what {
+        1 => c.own = a,
+        2 => c.label = a,
+        3 => c.state = a,
+        4 => c.held = a,
+        5 => c.readings[a as usize] = b,
+        6 => c.estimates[a as usize].0 = FLOATS[b as usize],
+        7 => c.estimates[a as usize].1 = FLOATS[b as usize],
+        8 => c.votes[a as usize] = Some((b, d)),
+        9 => c.votes[a as usize] = None,
+        10 => (c.held, c.readings) = (0, [0; 16]),
+        _ => {}
+    }
+}
+
+fn whole(c: &State) -> String {
+    let mut out = format!("\t{}\t{}\t{}\t{}\t{}", c.own, c.phase as u32, c.label, c.state, c.held);
+    for raw in c.readings {
+        write!(out, "\t{raw}").unwrap();
+    }
+    for (x, p) in c.estimates {
+        write!(out, "\t{}\t{}", bits(x), bits(p)).unwrap();
+    }
+    for v in c.votes {
+        match v {
+            None => out.push_str("\t0"),
+            Some((state, mask)) => write!(out, "\t1\t{state}\t{mask}").unwrap(),
+        }
+    }
+    out
+}
+
+/// A row: the state is handed `A 1 0`. In range, U goes out, for its label is below ours; else 6 and nothing. Neither changes the state.
+fn changed(row: [u32; 5]) -> String {
+    let [phase, what, a, b, d] = row;
+    let mut s = settings();
+    change_settings(&mut s, what, a, b);
+    let mut c = sound([Phase::Idle, Phase::Collecting, Phase::Pending, Phase::Voting][phase as usize]);
+    change_state(&mut c, what, a, b, d);
+    if !settings_in_range(&s) || !state_in_range(&s, &c) {
+        return format!("\t6{}\n", whole(&c));
+    }
+    let mut out = String::new();
+    say(&mut out, "U", &[c.own, c.state]);
+    for (x, p) in &c.estimates[..s.m as usize] {
+        write!(out, "\t{}\t{}", bits(*x), bits(*p)).unwrap();
+    }
+    format!("\t0{out}{}\n", whole(&c))
+}
+
+/// "A start gives phase idle, current label = floor, state label 0, each x = +0 and P = p, no reading, no vote."
+fn started(row: [u32; 4]) -> String {
+    let [what, n, own, floor] = row;
+    let mut s = settings();
+    if what >= 16 {
+        change_settings(&mut s, what, 0, n);
+    } else {
+        change_settings(&mut s, what, n, 0);
+    }
+    if !settings_in_range(&s) || own >= s.g {
+        return "\t6\n".to_string();
+    }
+    let mut estimates = [(0.0, 0.0); 16];
+    estimates[..s.m as usize].fill((0.0, f64::from(s.p)));
+    let readings = [0; 16];
+    let votes = [None; 7];
+    let c = State { own, phase: Phase::Idle, label: floor, state: 0, held: 0, readings, estimates, votes };
+    format!("\t0{}\n", whole(&c))
+}
+
 fn main() {
     let mut c = start(0, 0);
     let mut text = String::new();
@@ -465,6 +737,12 @@ fn main() {
             text.push_str(&c.state_text());
         }
         text.push('\n');
+    }
+    for row in CHANGED {
+        text.push_str(&changed(row));
+    }
+    for row in STARTED {
+        text.push_str(&started(row));
     }
     print!("{text}");
 }

@@ -1,16 +1,15 @@
 // Leads one controller through a chain of messages and prints every answer, to be compared with a second program's (tests/controller/chains.rs).
 // A line for each message: the refusal's number or 0, the phase, the label, the state label and the runs held after it; the messages sent; and where
-// the state label changed, the state.
+// the state label changed, the state. Then states and settings with one clause of their range broken at a time, and starts (wrong.rt).
 mod chain;
 mod print;
+mod wrong;
 
 use chain::CHAIN;
 use chain::STEPS;
 use controller::Controller;
 use message::Head;
 use message::Message;
-use plan::Phase;
-use plan::Sent;
 use units::Estimate;
 use units::Group;
 use units::Numbers;
@@ -21,7 +20,7 @@ use units::mask::has;
 use vote::Digest;
 
 // Three controllers and three runs.
-fn settings() -> Numbers {
+pub(crate) fn settings() -> Numbers {
     let mut factors = [0u32; 16];
     factors[0] = 10047;
     factors[1] = 9000;
@@ -150,53 +149,20 @@ fn message(kind: u32, a: u32, b: u32, c: u32, d: u32) -> Message {
     plain
 }
 
-fn phase_number(phase: Phase) -> u32 {
-    match phase {
-        Phase::Idle => 0,
-        Phase::Collecting => 1,
-        Phase::Pending => 2,
-        Phase::Voting => 3,
-    }
-}
-
-fn sent(numbers: Numbers, c: Controller, s: Sent) {
-    match s {
-        Sent::Nothing => {}
-        Sent::One(head) => {
-            let m = c.message(numbers, head);
-            print::message(numbers.group.m, m);
-        }
-    }
-}
-
-// The controller after a step: its phase, labels and runs held.
-fn shown(c: Controller) {
-    let phase = c.phase;
-    let label = c.label;
-    let state = c.state;
-    print::number(phase_number(phase));
-    print::number(label.0);
-    print::number(state.0);
-    print::number(c.held);
-}
-
 fn play(numbers: Numbers, c: Controller, a: Message) -> Controller {
     let before = c.state;
     let r = c.step(numbers, a);
     let verdict = r.verdict;
     let next = r.next;
-    let first = r.first;
-    let second = r.second;
     let now = next.state;
     print::number(verdict.number());
-    shown(next);
-    sent(numbers, next, first);
-    sent(numbers, next, second);
+    print::brief(next);
+    print::sent(numbers.group.m, r);
     if !now.same(before) {
         let estimates = next.estimates;
         print::state(numbers.group.m, estimates);
     }
-    io::write_all(1, b"\n");
+    print::end();
     next
 }
 
@@ -216,4 +182,6 @@ fn main() {
         c = play(numbers, c, a);
         i += 1;
     }
+    wrong::states();
+    wrong::starts();
 }

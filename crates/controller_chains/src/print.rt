@@ -1,13 +1,19 @@
 // Prints numbers, messages and states: fields parted by tabs, floats by their bits.
+use controller::Controller;
+use controller::Told;
 use fields::Spelling;
 use fields::put_at;
 use floats::bits::bits_of;
 use message::Head;
 use message::Message;
+use plan::Phase;
 use units::Estimate;
+use units::limits::CONTROLLERS;
 use units::limits::RUNS;
 use units::mask::has;
+use vote::Ballot;
 use vote::Digest;
+use vote::Seat;
 
 // The first bytes of a line.
 fn front(line: &[u8], end: usize) {
@@ -170,4 +176,74 @@ pub(crate) fn message(m: usize, a: Message) {
             io::write_all(1, b"\tX");
         }
     }
+}
+
+// The messages that go out, as many as there are.
+pub(crate) fn sent(m: usize, r: Told) {
+    if 0 < r.sent {
+        let first = r.first;
+        message(m, first);
+    }
+    if 1 < r.sent {
+        let second = r.second;
+        message(m, second);
+    }
+}
+
+fn phase_number(phase: Phase) -> u32 {
+    match phase {
+        Phase::Idle => 0,
+        Phase::Collecting => 1,
+        Phase::Pending => 2,
+        Phase::Voting => 3,
+    }
+}
+
+// Phase, labels and runs held.
+pub(crate) fn brief(c: Controller) {
+    let phase = c.phase;
+    let label = c.label;
+    let state = c.state;
+    number(phase_number(phase));
+    number(label.0);
+    number(state.0);
+    number(c.held);
+}
+
+// A vote, or 0 for none.
+fn ballot(b: Ballot) {
+    match b {
+        Ballot::Missing => number(0),
+        Ballot::Cast(d) => {
+            number(1);
+            digest(d);
+        }
+    }
+}
+
+fn votes(seats: [Seat; 7]) {
+    let mut i = 0usize;
+    while i < CONTROLLERS {
+        let s = seats[i];
+        let b = s.ballot;
+        ballot(b);
+        i += 1;
+    }
+}
+
+pub(crate) fn end() {
+    io::write_all(1, b"\n");
+}
+
+// A controller, whole, and the line's end.
+pub(crate) fn controller(c: Controller) {
+    place(c.own);
+    brief(c);
+    let raws = c.readings;
+    readings(65535, raws);
+    let estimates = c.estimates;
+    state(RUNS, estimates);
+    let seats = c.votes;
+    votes(seats);
+    end();
 }
