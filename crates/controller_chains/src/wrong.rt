@@ -3,6 +3,7 @@
 use crate::print;
 use crate::settings;
 use controller::Controller;
+use controller::Started;
 use controller::apply::put_vote;
 use message::Head;
 use message::Message;
@@ -453,11 +454,20 @@ fn digest(state: u32, mask: u32) -> Digest {
     Digest { mask, state }
 }
 
-// Own number 0, label 5, state label 2, readings of runs 0 and 1, and the vote of 1; while voting its own vote too.
-fn sound(phase: u32) -> Controller {
+// The vote of 1, and while voting the own.
+fn sound_votes(phase: u32) -> [Seat; 7] {
     let nobody = Seat {
         ballot: Ballot::Missing,
     };
+    let others = put_vote([nobody; 7], 1, digest(4, 7));
+    if phase == 3 {
+        return put_vote(others, 0, digest(2, 3));
+    }
+    others
+}
+
+// Own number 0, label 5, state label 2, readings of runs 0 and 1, and the votes above.
+fn sound(phase: u32) -> Controller {
     let blank = Estimate {
         x: 0.0,
         variance: 0.0,
@@ -478,10 +488,7 @@ fn sound(phase: u32) -> Controller {
         x: 30.0,
         variance: 7.0,
     };
-    let mut votes = put_vote([nobody; 7], 1, digest(4, 7));
-    if phase == 3 {
-        votes = put_vote(votes, 0, digest(2, 3));
-    }
+    let votes = sound_votes(phase);
     Controller {
         own: 0,
         phase: phase_of(phase),
@@ -512,10 +519,13 @@ fn float(n: u32) -> f64 {
 // Own number, labels and runs held.
 fn other_numbers(c: Controller, what: u32, n: u32) -> Controller {
     let mut next = c;
+    let own = n as usize;
+    let label = RoundLabel(n);
+    let state = StateLabel(n);
     match what {
-        1 => next.own = n as usize,
-        2 => next.label = RoundLabel(n),
-        3 => next.state = StateLabel(n),
+        1 => next.own = own,
+        2 => next.label = label,
+        3 => next.state = state,
         _ => next.held = n,
     }
     next
@@ -553,7 +563,8 @@ fn other_estimate(c: Controller, is_x: bool, run: usize, n: u32) -> Controller {
 fn other_vote(c: Controller, seat: usize, digest: Digest) -> Controller {
     let mut next = c;
     let votes = c.votes;
-    next.votes = put_vote(votes, seat, digest);
+    let more = put_vote(votes, seat, digest);
+    next.votes = more;
     next
 }
 
@@ -569,8 +580,9 @@ fn no_vote(c: Controller, seat: usize) -> Controller {
 
 fn no_reading(c: Controller) -> Controller {
     let mut next = c;
+    let none = [0u32; 16];
     next.held = 0;
-    next.readings = [0u32; 16];
+    next.readings = none;
     next
 }
 
@@ -607,9 +619,10 @@ fn other_run(s: Numbers, is_factor: bool, run: usize, n: u32) -> Numbers {
 // Settings with one number of theirs changed.
 fn other_settings(s: Numbers, what: u32, a: u32, b: u32) -> Numbers {
     let mut next = s;
+    let size = a as usize;
     match what {
-        11 => next.group.g = a as usize,
-        12 => next.group.m = a as usize,
+        11 => next.group.g = size,
+        12 => next.group.m = size,
         13 => next.q = a,
         14 => next.r = a,
         15 => next.p = a,
@@ -662,12 +675,17 @@ fn start_settings(what: u32, n: u32) -> Numbers {
     }
 }
 
+fn start(numbers: Numbers, own: u32, floor: u32) -> Started {
+    let floor = RoundLabel(floor);
+    Controller::start(numbers, own as usize, floor)
+}
+
 // What a start says, and where it is taken, the controller.
 fn tried(row: usize) {
     if row < TRIES {
         let k = row * 4;
         let numbers = start_settings(STARTED[k], STARTED[k + 1]);
-        let r = Controller::start(numbers, STARTED[k + 2] as usize, RoundLabel(STARTED[k + 3]));
+        let r = start(numbers, STARTED[k + 2], STARTED[k + 3]);
         let verdict = r.verdict;
         let number = verdict.number();
         print::number(number);

@@ -79,6 +79,12 @@ loop-less c = search needs
 loop-again : tie.Need-loop-again Inv-loop μ-loop
 loop-again c = search needs
 
+states-requires : tie.Need-states-requires Inv-loop μ-loop
+states-requires c κs = search needs
+
+starts-requires : tie.Need-starts-requires Inv-loop μ-loop
+starts-requires c κs = search needs
+
 returns : tie.Need-returns Inv-loop μ-loop
 returns c = search needs
 
@@ -111,4 +117,6 @@ main-spec =
     add-i
     loop-less
     loop-again
+    states-requires
+    starts-requires
     returns)
