@@ -4,7 +4,6 @@ use crate::print;
 use crate::settings;
 use controller::Controller;
 use controller::Started;
-use controller::apply::put_vote;
 use message::Head;
 use message::Message;
 use plan::Phase;
@@ -15,6 +14,7 @@ use units::StateLabel;
 use vote::Ballot;
 use vote::Digest;
 use vote::Seat;
+use vote::put_vote;
 
 // Rows of five: the phase that the state is in, what is changed, and up to three values.
 const ROWS: usize = 72;
