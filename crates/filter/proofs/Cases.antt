@@ -6,9 +6,9 @@ use Rattle.floats.specs.Bits.{ofWhole, nought}
 use Rattle.filter.specs.Run.{limited, atMost}
 
 module _ (top v : Float) where
-  pub within : lt nought v ≡ true → le v top ≡ true → v ≡ limited top v
+  pub inside : lt nought v ≡ true → le v top ≡ true → v ≡ limited top v
   unfolding limited
-  within a b = sym (ap (λ (t : Bool). cond (t && le v top) v (cond (lt top v) top nought)) a ∙ ap (λ (t : Bool). cond t v (cond (lt top v) top nought)) b)
+  inside a b = sym (ap (λ (t : Bool). cond (t && le v top) v (cond (lt top v) top nought)) a ∙ ap (λ (t : Bool). cond t v (cond (lt top v) top nought)) b)
 
   outside : lt nought v && le v top ≡ false → limited top v ≡ cond (lt top v) top nought
   unfolding limited

@@ -20,22 +20,22 @@ use Rattle.filter.specs.Run.{limited, atMost}
 use Rattle.filter.specs.Share.{target}
 
 -- the range on values alone: `upTo` without the test that the value is a float of 64 bits
-abbrev within : ℕ → Float → Bool
-within n nan = false
-within n (inf s) = false
-within n (fin s m e) = not s && leb (m * up e) (n * down e)
+abbrev notAbove : ℕ → Float → Bool
+notAbove n nan = false
+notAbove n (inf s) = false
+notAbove n (fin s m e) = not s && leb (m * up e) (n * down e)
 
-out : (n : ℕ) (v : Float) → upTo n v ≡ true → T (within n v)
+out : (n : ℕ) (v : Float) → upTo n v ≡ true → T (notAbove n v)
 out n nan h = absurd (true≢false (sym h))
 out n (inf s) h = absurd (true≢false (sym h))
 out n (fin s m e) h = and-r (fits binary64 (fin s m e)) (not s && leb (m * up e) (n * down e)) (true-T h)
 
-into : (n : ℕ) (v : Float) → T (fits binary64 v) → T (within n v) → upTo n v ≡ true
+into : (n : ℕ) (v : Float) → T (fits binary64 v) → T (notAbove n v) → upTo n v ≡ true
 into n nan f h = absurd h
 into n (inf s) f h = absurd h
 into n (fin s m e) f h = is-true _ (and-i (fits binary64 (fin s m e)) (not s && leb (m * up e) (n * down e)) f h)
 
-nought-within : (n : ℕ) → T (within n nought)
+nought-within : (n : ℕ) → T (notAbove n nought)
 nought-within n = out n nought (nought-range n)
 
 -- not NaN and its sign clear, an infinity included
@@ -50,13 +50,13 @@ plus-of-value (inf s) a c h = absurd h
 plus-of-value (fin true m e) a c h = absurd (true≢false (h .0))
 plus-of-value (fin false m e) a c h = tt
 
-within-of-value : (x : Float) (n : ℕ) → HasValue x false n 1 → T (within n x)
+within-of-value : (x : Float) (n : ℕ) → HasValue x false n 1 → T (notAbove n x)
 within-of-value nan n h = absurd h
 within-of-value (inf s) n h = absurd h
 within-of-value (fin true m e) n h = absurd (true≢false (h .0))
 within-of-value (fin false m e) n h = le→leb (m * up e) (n * down e) (le-of-eq (sym (mul-one (m * up e)) ∙ h .1))
 
-within-mono : (n k : ℕ) (x : Float) → n ≤ k → T (within n x) → T (within k x)
+within-mono : (n k : ℕ) (x : Float) → n ≤ k → T (notAbove n x) → T (notAbove k x)
 within-mono n k nan l h = absurd h
 within-mono n k (inf s) l h = absurd h
 within-mono n k (fin s m e) l h =
@@ -74,7 +74,7 @@ cross : (x k n E D : ℕ) → 0 < D → x * D ≤ k * E → k ≡ n * D → x �
 cross x k n E D P h e = le-of-mul-le-mul-right (le-trans h (le-of-eq (ap (λ (z : ℕ). z * E) e ∙ mul-right-comm n D E))) P
 
 -- at most a value that is the whole number n
-le-within : (x y : Float) (n : ℕ) → HasValue y false n 1 → T (plus x) → T (le x y) → T (within n x)
+le-within : (x y : Float) (n : ℕ) → HasValue y false n 1 → T (plus x) → T (le x y) → T (notAbove n x)
 unfolding le
 le-within nan y n q p h = absurd p
 le-within (inf true) y n q p h = absurd p
@@ -101,13 +101,13 @@ units-plus q k = go (ltb (q * 2 ^ k) (2 ^ (low binary64 + suc (emax binary64))))
 round-plus : (a c : ℕ) → T (plus (round binary64 false a c))
 round-plus a c = subst (λ (z : Float). T (plus z)) (sym (round-is binary64 false a c)) (units-plus _ _)
 
-round-within : (a c n : ℕ) → 0 < c → n ≤ 2 ^ 53 → a ≤ n * c → T (within n (round binary64 false a c))
+round-within : (a c n : ℕ) → 0 < c → n ≤ 2 ^ 53 → a ≤ n * c → T (notAbove n (round binary64 false a c))
 round-within a c n C N h =
     le-within (round binary64 false a c) (round binary64 false n 1) n (round-whole binary64 false n N) (round-plus a c)
     (round-mono binary64 a c n 1 C (lit< tt) (le-trans (le-of-eq (mul-one a)) h))
 
 -- ---- a whole number, and what is limited by one
-whole-within : (n : ℕ) → n ≤ 2 ^ 53 → T (within n (ofWhole n))
+whole-within : (n : ℕ) → n ≤ 2 ^ 53 → T (notAbove n (ofWhole n))
 whole-within n h = within-of-value (ofWhole n) n (whole-value n h)
 
 above-nought : (v : Float) → T (lt nought v) → T (plus v)
@@ -117,11 +117,11 @@ above-nought (inf s) h = h
 above-nought (fin true m e) h = absurd h
 above-nought (fin false m e) h = tt
 
-limited-within : (n : ℕ) → n ≤ 2 ^ 53 → (v : Float) → T (within n (limited (ofWhole n) v))
+limited-within : (n : ℕ) → n ≤ 2 ^ 53 → (v : Float) → T (notAbove n (limited (ofWhole n) v))
 unfolding limited
 limited-within n h v = go (lt nought v && le v (ofWhole n)) (lt (ofWhole n) v) (λ t. le-within v (ofWhole n) n (whole-value n h) (above-nought v (and-l (lt nought v) (le v (ofWhole n)) t)) (and-r (lt nought v) (le v (ofWhole n)) t))
   where
-    go : (b c : Bool) → (T b → T (within n v)) → T (within n (cond b v (cond c (ofWhole n) nought)))
+    go : (b c : Bool) → (T b → T (notAbove n v)) → T (notAbove n (cond b v (cond c (ofWhole n) nought)))
     go true c f = f tt
     go false true f = whole-within n h
     go false false f = nought-within n
@@ -132,7 +132,7 @@ sum-arith a b E D x y h k =
     le-trans (add-le-add (mul-le-mul-right D h) (mul-le-mul-right E k))
     (le-of-eq (sym (add-mul a b (E * D) ∙ ap (λ (z : ℕ). z + b * (E * D)) (sym (mul-assoc a E D)) ∙ ap (λ (z : ℕ). a * E * D + z) (ap (λ (z : ℕ). b * z) (mul-comm E D) ∙ sym (mul-assoc b D E)))))
 
-add-within : (a b : ℕ) (x y : Float) → a + b ≤ 2 ^ 53 → T (within a x) → T (within b y) → T (within (a + b) (add binary64 x y))
+add-within : (a b : ℕ) (x y : Float) → a + b ≤ 2 ^ 53 → T (notAbove a x) → T (notAbove b y) → T (notAbove (a + b) (add binary64 x y))
 unfolding add
 add-within a b nan y N p q = absurd p
 add-within a b (inf s) y N p q = absurd p
@@ -145,7 +145,7 @@ add-within a b (fin false m e) (fin false n d) N p q =
     (sum-arith a b (down e) (down d) (m * up e) (n * up d) (leb→le (m * up e) (a * down e) p) (leb→le (n * up d) (b * down d) q))
 
 -- ---- a target
-mul-plus : (k : ℕ) (t w : Float) (n : ℕ) → T (within k t) → HasValue w false n 1 → T (plus (mul binary64 t w))
+mul-plus : (k : ℕ) (t w : Float) (n : ℕ) → T (notAbove k t) → HasValue w false n 1 → T (plus (mul binary64 t w))
 unfolding mul
 mul-plus k nan w n p q = absurd p
 mul-plus k (inf s) w n p q = absurd p
@@ -181,7 +181,7 @@ div-plus (fin false m e) (fin false j d) n p N q = go (eqb j 0) (λ t. none j d 
     go false f = round-plus (m * up e * down d) (j * up d * down e)
 
 -- a value with its sign clear that does not exceed a value in range is in range
-not-above : (k : ℕ) (t v : Float) → T (within k t) → T (plus v) → T (not (lt t v)) → T (within k v)
+not-above : (k : ℕ) (t v : Float) → T (notAbove k t) → T (plus v) → T (not (lt t v)) → T (notAbove k v)
 unfolding lt
 not-above k nan v p q h = absurd p
 not-above k (inf s) v p q h = absurd p
@@ -206,14 +206,14 @@ unfolding target atMost
 target-fits t w sum f = cond-fits binary64 (lt t (div binary64 (mul binary64 t (ofWhole w)) (ofWhole sum))) t (div binary64 (mul binary64 t (ofWhole w)) (ofWhole sum)) f (div-fits binary64 (mul binary64 t (ofWhole w)) (ofWhole sum))
 
 -- each target of a total in +0 .. k is in +0 .. k, where the sum of the weights is not 0
-target-within : (k : ℕ) (t : Float) (w sum : ℕ) → w ≤ 2 ^ 53 → sum ≤ 2 ^ 53 → 0 < sum → T (within k t) → T (within k (target t w sum))
+target-within : (k : ℕ) (t : Float) (w sum : ℕ) → w ≤ 2 ^ 53 → sum ≤ 2 ^ 53 → 0 < sum → T (notAbove k t) → T (notAbove k (target t w sum))
 unfolding target atMost
 target-within k t w sum W S P h = go (lt t q) (λ z. not-above k t q h (div-plus (mul binary64 t (ofWhole w)) (ofWhole sum) sum (mul-plus k t (ofWhole w) w h (whole-value w W)) P (whole-value sum S)) z)
   where
     q : Float
     q = div binary64 (mul binary64 t (ofWhole w)) (ofWhole sum)
 
-    go : (b : Bool) → (T (not b) → T (within k q)) → T (within k (cond b t q))
+    go : (b : Bool) → (T (not b) → T (notAbove k q)) → T (notAbove k (cond b t q))
     go true f = h
     go false f = f tt
 
@@ -224,7 +224,7 @@ range-mono n k v l h = into k v (true-T (range-fits n v h)) (within-mono n k v l
 pub add-range : (a b : ℕ) (x y : Float) → a + b ≤ 2 ^ 53 → upTo a x ≡ true → upTo b y ≡ true → upTo (a + b) (add binary64 x y) ≡ true
 add-range a b x y N p q = into (a + b) (add binary64 x y) (add-fits binary64 x y) (add-within a b x y N (out a x p) (out b y q))
 
--- whatever is held within a limit is in range
+-- whatever is held notAbove a limit is in range
 pub limited-range : (n : ℕ) (v : Float) → n ≤ 2 ^ 53 → T (fits binary64 v) → upTo n (limited (ofWhole n) v) ≡ true
 limited-range n v N f = into n (limited (ofWhole n) v) held (limited-within n N v)
   where

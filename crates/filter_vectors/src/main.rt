@@ -1,5 +1,6 @@
 // Computes rounds on drawn inputs and writes the bits of each x, P and target, to be compared with a second program's (tests/filter/vectors.rs).
-// 144 stations, each with its own settings and start; 16 rounds each, the state carried on from round to round.
+// 144 stations, each with its own settings and start; 16 rounds each, the state carried on from round to round. Then a round in range and the same with
+// one clause of "in range" broken at a time; then 200 rounds of one run, in some of which (total × weight) / weight exceeds the total.
 ghost use Prim.Native.Nat.{_<_, _≤_};
 use filter::Checked;
 use filter::checked::compute_checked;
@@ -294,10 +295,248 @@ fn play(station: u32) {
     }
 }
 
-fn main() {
+// The settings with the clause k broken, where it is one of theirs.
+fn odd_settings(k: u32, from: Numbers) -> Numbers {
+    let mut s = from;
+    let m = s.group.m;
+    if k == 1 {
+        let group = Group { g: 0, m };
+        s.group = group;
+    }
+    if k == 2 {
+        let group = Group { g: 3, m: 17 };
+        s.group = group;
+    }
+    if k == 3 {
+        let group = Group { g: 8, m };
+        s.group = group;
+    }
+    if k == 4 {
+        s.q = 0;
+    }
+    if k == 5 {
+        s.q = NOISE_TOP + 1;
+    }
+    if k == 6 {
+        s.r = 0;
+    }
+    if k == 7 {
+        s.r = NOISE_TOP + 1;
+    }
+    if k == 8 {
+        s.p = 0;
+    }
+    if k == 9 {
+        s.p = FIRST_TOP + 1;
+    }
+    s
+}
+
+// The same of the places of factors and weights.
+fn odd_places(k: u32, from: Numbers) -> Numbers {
+    let mut s = from;
+    if k == 10 {
+        s.factors[0] = FACTOR_LOW - 1;
+    }
+    if k == 11 {
+        s.factors[2] = FACTOR_TOP + 1;
+    }
+    if k == 12 {
+        s.weights[0] = 0;
+    }
+    if k == 13 {
+        s.weights[2] = WEIGHT_TOP + 1;
+    }
+    if k == 14 {
+        s.factors[3] = 10000;
+    }
+    if k == 15 {
+        s.weights[15] = 1;
+    }
+    s
+}
+
+// A float that is no x and no P, by its number: past the limit, NaN, -0, infinity, the smallest above 0, 1.
+fn odd_float(kind: u32, limit: u64) -> f64 {
+    if kind == 0 {
+        return float_of(limit);
+    }
+    if kind == 1 {
+        return 0.0 / 0.0;
+    }
+    if kind == 2 {
+        return 0.0 * (0.0 - 1.0);
+    }
+    if kind == 3 {
+        return float_of(0x7ff0_0000_0000_0000);
+    }
+    if kind == 4 { float_of(1) } else { 1.0 }
+}
+
+// The place of a state that the clause k breaks, and what it is given there.
+fn odd_place(k: u32) -> usize {
+    if k == 24 || k == 25 {
+        return 3;
+    }
+    if k == 26 || k == 27 {
+        return 15;
+    }
+    if k == 16 || k == 19 || k == 20 || k == 23 {
+        0
+    } else {
+        2
+    }
+}
+
+fn odd_estimate(k: u32, e: Estimate) -> Estimate {
+    let x = e.x;
+    let variance = e.variance;
+    if k == 16 {
+        return Estimate {
+            x: odd_float(0, X_BITS + 1),
+            variance,
+        };
+    }
+    if k == 17 {
+        return Estimate {
+            x,
+            variance: odd_float(0, VARIANCE_BITS + 1),
+        };
+    }
+    if k == 18 || k == 20 || k == 22 {
+        return Estimate {
+            x: odd_float(k / 2 % 4, 0),
+            variance,
+        };
+    }
+    if k == 19 || k == 21 || k == 23 {
+        return Estimate {
+            x,
+            variance: odd_float(k / 2 % 4, 0),
+        };
+    }
+    if k == 24 {
+        return Estimate {
+            x: odd_float(4, 0),
+            variance,
+        };
+    }
+    if k == 25 {
+        return Estimate {
+            x,
+            variance: odd_float(5, 0),
+        };
+    }
+    if k == 26 {
+        return Estimate {
+            x: odd_float(2, 0),
+            variance,
+        };
+    }
+    Estimate {
+        x,
+        variance: odd_float(1, 0),
+    }
+}
+
+// The state with the clause k broken, where it is one of a state's.
+fn odd_state(k: u32, from: [Estimate; 16]) -> [Estimate; 16] {
+    let mut state = from;
+    if 16 <= k && k < 28 {
+        let i = odd_place(k);
+        if i < RUNS {
+            state[i] = odd_estimate(k, state[i]);
+        }
+    }
+    state
+}
+
+// Two readings, or these with the clause k broken.
+fn odd_readings(k: u32) -> [u32; 16] {
+    let mut readings = [0u32; 16];
+    readings[0] = if k == 33 { RAW_TOP + 1 } else { 200000 };
+    readings[2] = RAW_TOP;
+    if k == 34 {
+        readings[3] = 1;
+    }
+    if k == 35 {
+        readings[15] = 1;
+    }
+    readings
+}
+
+// The chosen mask: runs 0 and 2, or with the clause k broken.
+fn odd_mask(k: u32) -> u32 {
+    if k == 30 {
+        return 0;
+    }
+    if k == 31 {
+        return 8;
+    }
+    if k == 32 { 65536 } else { 5 }
+}
+
+// A round in range, where k is 0, or with the clause k broken; that m is 17 is of a station of sixteen runs.
+fn broken(k: u32) {
+    let station = if k == 2 { 15u32 } else { 2u32 };
+    let numbers = settings(station);
+    let m = numbers.group.m;
+    let state = start(station, m, numbers.p);
+    let c = compute_checked(
+        RoundLabel(if k == 29 { 3 } else { 5 }),
+        StateLabel(if k == 28 { 5 } else { 4 }),
+        odd_state(k, state),
+        odd_places(k, odd_settings(k, numbers)),
+        odd_mask(k),
+        odd_readings(k),
+    );
+    show(m, c);
+}
+
+// One run alone.
+fn alone(j: u32) {
+    let mut numbers = settings(0);
+    numbers.weights[0] = 670 + j % 100;
+    let mut state = start(0, 1, numbers.p);
+    state[0] = Estimate {
+        x: float_of(magnitude(draw(j, 90), X_BITS)),
+        variance: 1.0,
+    };
+    let mut readings = [0u32; 16];
+    readings[0] = cut(draw(j, 91), RAW_TOP);
+    show(
+        1,
+        compute_checked(RoundLabel(2), StateLabel(1), state, numbers, 1, readings),
+    );
+}
+
+// A round in range and 35 that are not, then one run alone.
+fn play_odd() {
+    let mut k = 0u32;
+    while k < 36 {
+        broken(k);
+        k += 1;
+    }
+}
+
+fn play_alone() {
+    let mut j = 0u32;
+    while j < 200 {
+        alone(j);
+        j += 1;
+    }
+}
+
+fn play_drawn() {
     let mut station = 0u32;
     while station < 144 {
         play(station);
         station += 1;
     }
+}
+
+fn main() {
+    play_drawn();
+    play_odd();
+    play_alone();
 }

@@ -11,25 +11,25 @@ use crate::same::is_nought;
 use units::Estimate;
 use units::limits::RUNS;
 
-pub fn x_in_range(x: f64) -> bool
+fn x_in_range(x: f64) -> bool
     ensures { λ r. ⌜ r ≡ upTo xTop x ⌝ }
 {
     bits_of(x) <= X_BITS
 }
 
-pub fn variance_in_range(variance: f64) -> bool
+fn variance_in_range(variance: f64) -> bool
     ensures { λ r. ⌜ r ≡ upTo varianceTop variance ⌝ }
 {
     bits_of(variance) <= VARIANCE_BITS
 }
 
-pub fn target_in_range(target: f64) -> bool
+fn target_in_range(target: f64) -> bool
     ensures { λ r. ⌜ r ≡ upTo targetTop target ⌝ }
 {
     bits_of(target) <= TARGET_BITS
 }
 
-pub fn estimate_in_range(e: Estimate) -> bool
+fn estimate_in_range(e: Estimate) -> bool
     ensures { λ r. ⌜ r ≡ estimateFits e ⌝ }
 {
     x_in_range(e.x) & variance_in_range(e.variance)

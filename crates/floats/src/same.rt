@@ -6,27 +6,27 @@ use crate::bits::bits_of;
 use units::Estimate;
 use units::limits::RUNS;
 
-pub fn same_float(x: f64, y: f64) -> bool
+fn same_float(x: f64, y: f64) -> bool
     ensures { λ r. ⌜ r ≡ sameFloat x y ⌝ }
 {
     bits_of(x) == bits_of(y)
 }
 
 // Whether x is +0.
-pub fn is_nought(x: f64) -> bool
+pub(crate) fn is_nought(x: f64) -> bool
     ensures { λ r. ⌜ r ≡ sameFloat x nought ⌝ }
 {
     same_float(x, 0.0)
 }
 
-pub fn same_estimate(a: Estimate, b: Estimate) -> bool
+fn same_estimate(a: Estimate, b: Estimate) -> bool
     ensures { λ r. ⌜ r ≡ sameEstimate a b ⌝ }
 {
     same_float(a.x, b.x) & same_float(a.variance, b.variance)
 }
 
 // Whether an estimate is +0 and +0.
-pub fn is_blank(e: Estimate) -> bool
+pub(crate) fn is_blank(e: Estimate) -> bool
     ensures { λ r. ⌜ r ≡ sameEstimate e blank ⌝ }
 {
     is_nought(e.x) & is_nought(e.variance)

@@ -210,9 +210,11 @@ module _ (c : Certificate) where
   certificate-parts : (run : Bool) → certificateFits run c ≡ true → (lenFits run (c .len) ≡ true) × (length (c .bytes) ≡ 16) × ((i : ℕ) → i < 16 → byteAt c i ≡ true)
   unfolding certificateFits
   certificate-parts run h =
-      let l = and-left (lenFits run (c .len) && eqb (length (c .bytes)) 16) _ h in
-      (and-left (lenFits run (c .len)) _ l, eqb-true (length (c .bytes)) 16 (and-right (lenFits run (c .len)) _ l),
-       λ i b. every-at (byteAt c) 16 i (and-right (lenFits run (c .len) && eqb (length (c .bytes)) 16) _ h) b)
+      let l = and-left (lenFits run (c .len) && eqb (length (c .bytes)) 16) _ h in (
+        and-left (lenFits run (c .len)) _ l,
+        eqb-true (length (c .bytes)) 16 (and-right (lenFits run (c .len)) _ l),
+        λ i b. every-at (byteAt c) 16 i (and-right (lenFits run (c .len) && eqb (length (c .bytes)) 16) _ h) b,
+      )
 
   certificate-from : (run : Bool) → lenFits run (c .len) ≡ true → length (c .bytes) ≡ 16 → ((i : ℕ) → i < 16 → byteAt c i ≡ true) → certificateFits run c ≡ true
   unfolding certificateFits
@@ -226,29 +228,31 @@ module _ (c : Certificate) where
 
   pub certificate-exact : (certificateFits true c ≡ true → CertificateInRange c) × (CertificateInRange c → certificateFits true c ≡ true)
   certificate-exact = (
-      λ h.
-      let k = certificate-parts true h in
-      let l = within-range 1 16 (c .len) (k .0) in
-      record {
-        size = l;
-        sixteen = k .1;
-        byte = λ i b. within-range 33 126 (byteOf i) (byte-here i b (k .2 i (omega (arith, l))));
-        none = λ i b m. eqb-true (byteOf i) 0 (byte-none i b (k .2 i m));
-      },
-      λ r. certificate-from true (within-made 1 16 (c .len) (r .size)) (r .sixteen) (λ i m.
-      by-cases (decLt i (c .len))
-      (λ b. ap (λ (t : Bool). bytePlace t (byteOf i)) (lt-ltb i (c .len) b) ∙ within-made 33 126 (byteOf i) (r .byte i b))
-      (λ n. let b : c .len ≤ i = omega arith in ap (λ (t : Bool). bytePlace t (byteOf i)) (le-ltb i (c .len) b) ∙ eq-eqb (byteOf i) 0 (r .none i b m))))
+    λ h.
+        let k = certificate-parts true h in
+        let l = within-range 1 16 (c .len) (k .0) in
+        record {
+          size = l;
+          sixteen = k .1;
+          byte = λ i b. within-range 33 126 (byteOf i) (byte-here i b (k .2 i (omega (arith, l))));
+          none = λ i b m. eqb-true (byteOf i) 0 (byte-none i b (k .2 i m));
+        },
+    λ r. certificate-from true (within-made 1 16 (c .len) (r .size)) (r .sixteen) (λ i m.
+        by-cases (decLt i (c .len))
+        (λ b. ap (λ (t : Bool). bytePlace t (byteOf i)) (lt-ltb i (c .len) b) ∙ within-made 33 126 (byteOf i) (r .byte i b))
+        (λ n. let b : c .len ≤ i = omega arith in ap (λ (t : Bool). bytePlace t (byteOf i)) (le-ltb i (c .len) b) ∙ eq-eqb (byteOf i) 0 (r .none i b m))),
+  )
 
   pub no-certificate-exact : (certificateFits false c ≡ true → NoCertificate c) × (NoCertificate c → certificateFits false c ≡ true)
   no-certificate-exact = (
-      λ h.
-      let k = certificate-parts false h in
-      let l = eqb-true (c .len) 0 (k .0) in
-      record { empty = l; sixteen = k .1; none = λ i m. eqb-true (byteOf i) 0 (byte-none i (omega (arith, l)) (k .2 i m)) },
-      λ r. certificate-from false (eq-eqb (c .len) 0 (r .empty)) (r .sixteen) (λ i m.
-      let b : c .len ≤ i = omega (arith, r .empty) in
-      ap (λ (t : Bool). bytePlace t (byteOf i)) (le-ltb i (c .len) b) ∙ eq-eqb (byteOf i) 0 (r .none i m)))
+    λ h.
+        let k = certificate-parts false h in
+        let l = eqb-true (c .len) 0 (k .0) in
+        record { empty = l; sixteen = k .1; none = λ i m. eqb-true (byteOf i) 0 (byte-none i (omega (arith, l)) (k .2 i m)) },
+    λ r. certificate-from false (eq-eqb (c .len) 0 (r .empty)) (r .sixteen) (λ i m.
+        let b : c .len ≤ i = omega (arith, r .empty) in
+        ap (λ (t : Bool). bytePlace t (byteOf i)) (le-ltb i (c .len) b) ∙ eq-eqb (byteOf i) 0 (r .none i m)),
+  )
 
 -- ---- the settings
 module _ (s : Settings) where

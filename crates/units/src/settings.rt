@@ -38,7 +38,7 @@ pub struct Numbers {
 }
 
 // Whether n is one of low..top.
-pub fn is_within(low: u32, top: u32, n: u32) -> bool
+fn is_within(low: u32, top: u32, n: u32) -> bool
     ensures { λ r. ⌜ r ≡ within low top n ⌝ }
 {
     (low <= n) & (n <= top)

@@ -1,4 +1,4 @@
-// Prints what `winner` and `decide` say of document 01's cases v1 to v12, and of votes that are out of range.
+// Prints what `winner` and `decide` say of document 01's cases v1 to v12, of digests of each place in the order, and of votes with one clause of "in range" broken at a time.
 use libc::STDOUT_FILENO;
 use units::Group;
 use units::RoundLabel;
@@ -101,7 +101,16 @@ fn show_cases() {
     show(3, 1, 1, [cast(1, 0), e, e, e, e, e, e]);
 }
 
-// Votes out of range: g, m, the label, a mask of 0, a bit at m, a state label at the label, a vote beyond the group.
+// One vote each, so that the order alone tells: the number of measurements comes before the state label, that before the mask.
+fn show_order() {
+    let e = none();
+    show(2, 2, 5, [cast(1, 4), cast(2, 3), e, e, e, e, e]);
+    show(2, 2, 5, [cast(2, 4), cast(3, 0), e, e, e, e, e]);
+    show(2, 3, 5, [cast(4, 0), cast(3, 1), e, e, e, e, e]);
+    show(2, 3, 5, [cast(3, 2), cast(5, 2), e, e, e, e, e]);
+}
+
+// Votes out of range: g, m, the label, a mask of 0, a bit at m, a state label at the label, a vote beyond the group, and in the last seat.
 fn show_refused() {
     let e = none();
     show(0, 2, 5, [e, e, e, e, e, e, e]);
@@ -113,10 +122,13 @@ fn show_refused() {
     show(2, 2, 5, [cast(4, 4), e, e, e, e, e, e]);
     show(2, 2, 5, [cast(1, 5), e, e, e, e, e, e]);
     show(2, 2, 5, [e, e, cast(1, 4), e, e, e, e]);
+    show(6, 2, 5, [e, e, e, e, e, e, cast(1, 4)]);
+    show(7, 2, 5, [e, e, e, e, e, e, cast(0, 4)]);
 }
 
 fn main() {
     show_cases();
+    show_order();
     show_refused();
     let e = none();
     show(7, 16, 4294967295, [e, e, e, e, e, e, e]);

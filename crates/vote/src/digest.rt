@@ -39,7 +39,7 @@ impl Digest {
     }
 
     // Its place in the order of digests, as one number.
-    pub fn rank(self) -> u64
+    pub(crate) fn rank(self) -> u64
         ensures { λ r. ⌜ r ≡ rank self ⌝ }
     {
         let held = size_of(self.mask);
@@ -49,7 +49,7 @@ impl Digest {
     }
 
     // The legal digest of a rank.
-    pub fn ranked(n: u64) -> Digest
+    pub(crate) fn unrank(n: u64) -> Digest
         ensures { λ r. ⌜ r ≡ unrank n ⌝ }
     {
         let state = StateLabel((n / 65536 % 4294967296) as u32);
@@ -60,7 +60,7 @@ impl Digest {
     }
 
     // All m runs and the state just before the label.
-    pub fn full(m: usize, label: RoundLabel) -> Digest
+    pub(crate) fn full(m: usize, label: RoundLabel) -> Digest
         ensures { λ r. ⌜ r ≡ full m label ⌝ }
     {
         let end = mask_end(m);
@@ -71,7 +71,7 @@ impl Digest {
     }
 
     // Run 0 alone and the state of a start.
-    pub fn least() -> Digest
+    pub(crate) fn least() -> Digest
         ensures { λ r. ⌜ r ≡ least ⌝ }
     {
         let state = StateLabel(0);

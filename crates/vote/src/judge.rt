@@ -5,8 +5,8 @@ ghost use Rattle.vote.specs.Decision.{decision, heldOff, missingOf, outs
 use crate::digest::Digest;
 use crate::ranks::SEAT;
 use crate::ranks::largest_of;
+use crate::ranks::largest_other;
 use crate::ranks::ranks_of;
-use crate::ranks::rival_of;
 use crate::ranks::strengths_of;
 use crate::ranks::tally;
 use crate::votes::Votes;
@@ -51,10 +51,10 @@ fn missing_of(g: usize, ranks: [u64; 7]) -> u64
 }
 
 // The strongest vote other than x or, where there is none, the outsider.
-fn strongest_rival(group: Group, label: RoundLabel, found: [u64; 7], x: u64) -> u64
+fn rival_of(group: Group, label: RoundLabel, found: [u64; 7], x: u64) -> u64
     ensures { λ r. ⌜ r ≡ rivalOf (group .m) label found x ⌝ }
 {
-    let voted = rival_of(found, x);
+    let voted = largest_other(found, x);
     if voted == 0 {
         return outsider_of(group, label, x);
     }
@@ -86,10 +86,10 @@ fn settle(group: Group, label: RoundLabel, ranks: [u64; 7]) -> Decision
         return Decision::Undecided;
     }
     let first = best % SEAT;
-    let rival = strongest_rival(group, label, found, first);
+    let rival = rival_of(group, label, found, first);
     let missing = missing_of(group.g, ranks);
     if held_off(rival, missing, best) {
-        Decision::Decided(Digest::ranked(first))
+        Decision::Decided(Digest::unrank(first))
     } else {
         Decision::Undecided
     }
@@ -122,7 +122,7 @@ pub fn winner(v: Votes) -> Poll
         if best == 0 {
             Poll::Nobody
         } else {
-            Poll::Won(Digest::ranked(best % SEAT))
+            Poll::Won(Digest::unrank(best % SEAT))
         }
     } else {
         Poll::Refused(Refusal::Range)

@@ -10,7 +10,7 @@ use units::limits::CONTROLLERS;
 // What one vote more adds to a strength: ranks lie below it.
 pub const SEAT: u64 = 72057594037927936;
 
-pub fn ranks_of(seats: [Seat; 7]) -> [u64; 7]
+pub(crate) fn ranks_of(seats: [Seat; 7]) -> [u64; 7]
     ensures { λ r. ⌜ r ≡ ranksOf seats ⌝ }
 {
     let mut ranks = [0u64; 7];
@@ -30,7 +30,7 @@ fn one_where_same(a: u64, b: u64) -> u64
 }
 
 // How often x stands among the ranks.
-pub fn tally(ranks: [u64; 7], x: u64) -> u64
+pub(crate) fn tally(ranks: [u64; 7], x: u64) -> u64
     ensures { λ r. ⌜ (r ≡ tallyOf x ranks) × (r ≤ 7) ⌝ }
 {
     let mut n = 0u64;
@@ -43,7 +43,7 @@ pub fn tally(ranks: [u64; 7], x: u64) -> u64
 }
 
 // How often a vote stands there and, below that, its rank; 0 for a missing one.
-pub fn strength(ranks: [u64; 7], x: u64) -> u64
+pub(crate) fn strength(ranks: [u64; 7], x: u64) -> u64
     ensures { λ r. ⌜ r ≡ strengthOf ranks x ⌝ }
 {
     if x == 0 {
@@ -52,7 +52,7 @@ pub fn strength(ranks: [u64; 7], x: u64) -> u64
     tally(ranks, x) * SEAT + x % SEAT
 }
 
-pub fn strengths_of(ranks: [u64; 7]) -> [u64; 7]
+pub(crate) fn strengths_of(ranks: [u64; 7]) -> [u64; 7]
     ensures { λ r. ⌜ r ≡ strengths ranks ⌝ }
 {
     let mut found = [0u64; 7];
@@ -71,7 +71,7 @@ fn larger(a: u64, b: u64) -> u64
 }
 
 // The largest of seven numbers.
-pub fn largest_of(found: [u64; 7]) -> u64
+pub(crate) fn largest_of(found: [u64; 7]) -> u64
     ensures { λ r. ⌜ r ≡ largest found ⌝ }
 {
     let mut most = 0u64;
@@ -84,20 +84,20 @@ pub fn largest_of(found: [u64; 7]) -> u64
 }
 
 // A strength, or 0 where it is that of the rank x.
-fn unless(x: u64, strength: u64) -> u64
+fn other_than(x: u64, strength: u64) -> u64
     ensures { λ r. ⌜ r ≡ otherThan x strength ⌝ }
 {
     if strength % SEAT == x { 0 } else { strength }
 }
 
 // The largest strength of a vote that is not x.
-pub fn rival_of(found: [u64; 7], x: u64) -> u64
+pub(crate) fn largest_other(found: [u64; 7], x: u64) -> u64
     ensures { λ r. ⌜ r ≡ largest (othersThan x found) ⌝ }
 {
     let mut most = 0u64;
     let mut i = 0usize;
     while i < CONTROLLERS {
-        most = larger(most, unless(x, found[i]));
+        most = larger(most, other_than(x, found[i]));
         i += 1;
     }
     most

@@ -25,7 +25,7 @@ pub struct Votes {
 
 impl Seat {
     // Whether a seat of the group holds a legal vote or none, and any other seat none.
-    pub fn in_range(self, inside: bool, m: usize, label: RoundLabel) -> bool
+    fn in_range(self, inside: bool, m: usize, label: RoundLabel) -> bool
         ensures { λ r. ⌜ r ≡ seatFits inside m label (self .ballot) ⌝ }
     {
         let ballot = self.ballot;
@@ -36,7 +36,7 @@ impl Seat {
     }
 
     // The rank of its vote, 0 where it has none.
-    pub fn rank(self) -> u64
+    pub(crate) fn rank(self) -> u64
         ensures { λ r. ⌜ r ≡ rankOf (self .ballot) ⌝ }
     {
         let ballot = self.ballot;

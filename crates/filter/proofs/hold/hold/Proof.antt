@@ -4,14 +4,14 @@ use mathlib.Core.Bool.{false, _&&_}
 use mathlib.Core.Logic.{⊎-elim}
 use lib.Ieee.{lt, le}
 use Rattle.floats.specs.Bits.{nought}
-use Rattle.filter.proofs.Cases.{within, above, neither, and-false-l, and-false-r}
+use Rattle.filter.proofs.Cases.{inside, above, neither, and-false-l, and-false-r}
 use Rattle.filter.proofs.hold.hold.Statement.{statement}
 use Rattle.filter.proofs.hold.hold.Tie as tie
 
 returns : tie.Need-returns
 returns c =
     let a = c .before .before .args in
-    within (a .top) (a .v) (c .before .if1 .taken) (c .if2 .taken)
+    inside (a .top) (a .v) (c .before .if1 .taken) (c .if2 .taken)
 
 -- where the two ways out of the first test meet
 not-within : (c : tie.Joined1) → lt nought (c .before .args .v) && le (c .before .args .v) (c .before .args .top) ≡ false

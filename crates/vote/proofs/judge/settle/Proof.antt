@@ -13,8 +13,8 @@ largest-of-requires c κs = search needs
 returns : tie.Need-returns
 returns c = settled-none (c .before .before .before .args .ranks) _ _ (c .before .before .strengths-of .ensures) (c .before .largest-of .ensures) (c .before .before .before .args .group) (c .before .before .before .args .label) (c .if1 .taken)
 
-strongest-rival-requires : tie.Need-strongest-rival-requires
-strongest-rival-requires c κs = search needs
+rival-of-requires : tie.Need-rival-of-requires
+rival-of-requires c κs = search needs
 
 missing-of-requires : tie.Need-missing-of-requires
 missing-of-requires c κs = search needs
@@ -22,14 +22,14 @@ missing-of-requires c κs = search needs
 held-off-requires : tie.Need-held-off-requires
 held-off-requires c κs = search needs
 
-ranked-requires : tie.Need-ranked-requires
-ranked-requires c κs = search needs
+unrank-requires : tie.Need-unrank-requires
+unrank-requires c κs = search needs
 
 returns-2 : tie.Need-returns-2
-returns-2 c = let a = c .before .before .before .before .before .before .before .before .args in settled-yes (a .ranks) _ _ (c .before .before .before .before .before .before .before .strengths-of .ensures) (c .before .before .before .before .before .before .largest-of .ensures) (a .group) (a .label) (c .before .before .before .before .before .if1 .left) _ _ (c .before .before .before .before .strongest-rival .ensures) (c .before .before .before .missing-of .ensures .0) _ (c .before .before .held-off .ensures) (c .before .if2 .taken) _ (c .ranked .ensures)
+returns-2 c = let a = c .before .before .before .before .before .before .before .before .args in settled-yes (a .ranks) _ _ (c .before .before .before .before .before .before .before .strengths-of .ensures) (c .before .before .before .before .before .before .largest-of .ensures) (a .group) (a .label) (c .before .before .before .before .before .if1 .left) _ _ (c .before .before .before .before .rival-of .ensures) (c .before .before .before .missing-of .ensures .0) _ (c .before .before .held-off .ensures) (c .before .if2 .taken) _ (c .unrank .ensures)
 
 returns-3 : tie.Need-returns-3
-returns-3 c = let a = c .before .before .before .before .before .before .before .args in settled-no (a .ranks) _ _ (c .before .before .before .before .before .before .strengths-of .ensures) (c .before .before .before .before .before .largest-of .ensures) (a .group) (a .label) (c .before .before .before .before .if1 .left) _ _ (c .before .before .before .strongest-rival .ensures) (c .before .before .missing-of .ensures .0) _ (c .before .held-off .ensures) (c .if2 .left)
+returns-3 c = let a = c .before .before .before .before .before .before .before .args in settled-no (a .ranks) _ _ (c .before .before .before .before .before .before .strengths-of .ensures) (c .before .before .before .before .before .largest-of .ensures) (a .group) (a .label) (c .before .before .before .before .if1 .left) _ _ (c .before .before .before .rival-of .ensures) (c .before .before .missing-of .ensures .0) _ (c .before .held-off .ensures) (c .if2 .left)
 
 pub settle-spec : {M : Type 1} → statement M
 settle-spec =
@@ -38,9 +38,9 @@ settle-spec =
     strengths-of-requires
     largest-of-requires
     returns
-    strongest-rival-requires
+    rival-of-requires
     missing-of-requires
     held-off-requires
-    ranked-requires
+    unrank-requires
     returns-2
     returns-3)

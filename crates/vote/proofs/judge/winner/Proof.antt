@@ -19,8 +19,8 @@ strengths-of-requires c κs = search needs
 largest-of-requires : tie.Need-largest-of-requires
 largest-of-requires c κs = search needs
 
-ranked-requires : tie.Need-ranked-requires
-ranked-requires c κs = search needs
+unrank-requires : tie.Need-unrank-requires
+unrank-requires c κs = search needs
 
 returns : tie.Need-returns
 unfolding winning
@@ -28,7 +28,7 @@ returns c = let v = c .before .before .before .before .before .before .before .a
 
 returns-2 : tie.Need-returns-2
 unfolding winning
-returns-2 c = let v = c .before .before .before .before .before .before .before .before .args .v in by-yes _ (sym (c .before .before .before .before .before .before .before .in-range .ensures) ∙ c .before .before .before .before .before .before .if1 .taken) (somebody-won (ranksOf (v .seats)) _ _ (c .before .before .before .strengths-of .ensures ∙ ap strengths (c .before .before .before .before .ranks-of .ensures)) (c .before .before .largest-of .ensures) (c .before .if2 .left) _ (c .ranked .ensures))
+returns-2 c = let v = c .before .before .before .before .before .before .before .before .args .v in by-yes _ (sym (c .before .before .before .before .before .before .before .in-range .ensures) ∙ c .before .before .before .before .before .before .if1 .taken) (somebody-won (ranksOf (v .seats)) _ _ (c .before .before .before .strengths-of .ensures ∙ ap strengths (c .before .before .before .before .ranks-of .ensures)) (c .before .before .largest-of .ensures) (c .before .if2 .left) _ (c .unrank .ensures))
 
 returns-3 : tie.Need-returns-3
 unfolding winning
@@ -42,7 +42,7 @@ winner-spec =
     ranks-of-requires
     strengths-of-requires
     largest-of-requires
-    ranked-requires
+    unrank-requires
     returns
     returns-2
     returns-3)

@@ -1,8 +1,8 @@
--- `main` is safe and ends. Assumes nothing.
+-- `play_drawn` is safe and ends. Assumes nothing.
 use Prim.Native.Nat.{_-_, _≤_}
 use borrow.Author.Needs.{needs}
-use Rattle.filter_vectors.proofs.main.Statement.{statement}
-use Rattle.filter_vectors.proofs.main.Tie as tie
+use Rattle.filter_vectors.proofs.play_drawn.Statement.{statement}
+use Rattle.filter_vectors.proofs.play_drawn.Tie as tie
 
 abbrev Inv-loop : tie.InvT-loop
 Inv-loop station₀ station = station ≤ 144
@@ -28,7 +28,7 @@ loop-again c = search needs
 returns : tie.Need-returns Inv-loop μ-loop
 returns c = search needs
 
-pub main-spec : {M : Type 1} → statement M
-main-spec =
+pub play-drawn-spec : {M : Type 1} → statement M
+play-drawn-spec =
     tie.close
     (tie.spec Inv-loop μ-loop loop-holds play-requires add-station loop-less loop-again returns)

@@ -1,4 +1,4 @@
--- `rival_of` meets its contract: the largest so far and the largest of the rest make the whole. Assumes nothing.
+-- `largest_other` meets its contract: the largest so far and the largest of the rest make the whole. Assumes nothing.
 use native.Mathlib.Omega.{arith}
 use borrow.Author.Needs.{needs}
 use Prim.Native.Nat.{_-_, _≤_, _<_, max}
@@ -6,8 +6,8 @@ use mathlib.Core.Path.{_≡_, refl, ap, _∙_}
 use lib.ListN.{length, drop}
 use Rattle.vote.specs.Decision.{largest, otherThan, othersThan}
 use Rattle.vote.proofs.Turns.{largest-turn, largest-end}
-use Rattle.vote.proofs.ranks.rival_of.Statement.{statement}
-use Rattle.vote.proofs.ranks.rival_of.Tie as tie
+use Rattle.vote.proofs.ranks.largest_other.Statement.{statement}
+use Rattle.vote.proofs.ranks.largest_other.Tie as tie
 
 abbrev Inv-loop : tie.InvT-loop
 Inv-loop x found most₀ i₀ most i = (i ≤ 7) × (max most (largest (othersThan x (drop i found))) ≡ largest (othersThan x found))
@@ -18,14 +18,14 @@ abbrev μ-loop : tie.MeasureT-loop
 loop-holds : tie.Need-loop-holds Inv-loop μ-loop
 loop-holds c = (omega arith, omega arith)
 
-mul-unless : tie.Need-mul-unless Inv-loop μ-loop
-mul-unless c = search needs
+mul-other-than : tie.Need-mul-other-than Inv-loop μ-loop
+mul-other-than c = search needs
 
-array-read-unless : tie.Need-array-read-unless Inv-loop μ-loop
-array-read-unless c = search needs
+array-read-other-than : tie.Need-array-read-other-than Inv-loop μ-loop
+array-read-other-than c = search needs
 
-unless-requires : tie.Need-unless-requires Inv-loop μ-loop
-unless-requires c κs = search needs
+other-than-requires : tie.Need-other-than-requires Inv-loop μ-loop
+other-than-requires c κs = search needs
 
 larger-requires : tie.Need-larger-requires Inv-loop μ-loop
 larger-requires c κs = search needs
@@ -38,22 +38,22 @@ loop-less c = omega arith
 
 loop-again : tie.Need-loop-again Inv-loop μ-loop
 unfolding largest
-loop-again c = let x = c .before .before .before .before .args .x in let l = c .before .before .before .before .args .t1 in let i = c .before .before .before .loop .i in let h : i < length l = omega arith in (omega arith, largest-turn (λ l. largest (othersThan x l)) (otherThan x) refl (λ y l. refl) l i _ _ _ h (c .before .before .before .loop .inv .1) (c .larger .ensures ∙ ap (max _) (c .before .unless .ensures)))
+loop-again c = let x = c .before .before .before .before .args .x in let l = c .before .before .before .before .args .t1 in let i = c .before .before .before .loop .i in let h : i < length l = omega arith in (omega arith, largest-turn (λ l. largest (othersThan x l)) (otherThan x) refl (λ y l. refl) l i _ _ _ h (c .before .before .before .loop .inv .1) (c .larger .ensures ∙ ap (max _) (c .before .other-than .ensures)))
 
 returns : tie.Need-returns Inv-loop μ-loop
 unfolding largest
 returns c = let x = c .before .before .args .x in let l = c .before .before .args .t1 in let i = c .before .loop .i in let h : length l ≤ i = omega arith in largest-end (λ l. largest (othersThan x l)) (otherThan x) refl (λ y l. refl) l i _ _ h (c .before .loop .inv .1)
 
-pub rival-of-spec : {M : Type 1} → statement M
-rival-of-spec =
+pub largest-other-spec : {M : Type 1} → statement M
+largest-other-spec =
     tie.close
     (tie.spec
     Inv-loop
     μ-loop
     loop-holds
-    mul-unless
-    array-read-unless
-    unless-requires
+    mul-other-than
+    array-read-other-than
+    other-than-requires
     larger-requires
     add-i
     loop-less

@@ -2,8 +2,8 @@
 use Rattle.vote.specs.Digest.{unrank}
 use mathlib.Core.Path.{refl}
 use borrow.Author.Needs.{needs}
-use Rattle.vote.proofs.digest.Digest.ranked.Statement.{statement}
-use Rattle.vote.proofs.digest.Digest.ranked.Tie as tie
+use Rattle.vote.proofs.digest.Digest.unrank.Statement.{statement}
+use Rattle.vote.proofs.digest.Digest.unrank.Tie as tie
 
 cast-t5 : tie.Need-cast-t5
 cast-t5 c = search needs
@@ -15,5 +15,5 @@ returns : tie.Need-returns
 unfolding unrank
 returns c = refl
 
-pub ranked-spec : {M : Type 1} → statement M
-ranked-spec = tie.close (tie.spec cast-t5 cast-t5-2 returns)
+pub unrank-spec : {M : Type 1} → statement M
+unrank-spec = tie.close (tie.spec cast-t5 cast-t5-2 returns)
