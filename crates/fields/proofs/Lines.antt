@@ -55,7 +55,7 @@ feed-split (b ∷ bs) =
     (λ t. rw t (λ n. ap (λ (x : ℕ). x ∷ bs) (eqb-true b lineFeed t)))
     (λ t. rw t (λ n. rw (add-one (suc (feedAt bs))) (ap (λ (l : List ℕ). b ∷ l) (rw (add-one (feedAt bs)) at (feed-split bs (λ e. n (ap suc e)))))))
 
-feed-line : (input : List ℕ) → (feedAt input ≡ length input → ⊥) → take (feedAt input + 1) input ≡ until lineFeed input ++ (lineFeed ∷ [])
+pub feed-line : (input : List ℕ) → (feedAt input ≡ length input → ⊥) → take (feedAt input + 1) input ≡ until lineFeed input ++ (lineFeed ∷ [])
 unfolding until
 feed-line [] = λ n. absurd (n refl)
 feed-line (b ∷ bs) =

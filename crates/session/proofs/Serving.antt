@@ -22,7 +22,7 @@ use Rattle.lines.specs.Writing.{bufferOf}
 use Rattle.controller.specs.declared.state.Controller.{Controller}
 use Rattle.controller.specs.Effects.{applied}
 use Rattle.controller.specs.Step.{carriedOut}
-use Rattle.session.specs.declared.carry.Carry.{Carry}
+use Rattle.fields.specs.declared.cut.Carry.{Carry}
 use Rattle.session.specs.declared.feed.Fed.{Fed}
 use Rattle.session.specs.declared.feed.Session.{Session}
 use Rattle.session.specs.declared.run.Ran.{Ran}
