@@ -1,2 +1,3 @@
 -- The laws of `station`.
+pub mod Calls
 pub mod Serving

@@ -19,7 +19,7 @@ pub fn budget() -> u64
 }
 
 // What an answer means, by errno where it is negative: a call that a signal interrupted is made again.
-pub fn outcome(got: isize, error: i32, part: &[u8]) -> Outcome
+pub fn meaning(got: isize, error: i32, part: &[u8]) -> Outcome
     ensures { λ r. ⌜ r ≡ outcomeOf got error (length (now (part .entry))) ⌝ }
 {
     if got < 0 {
@@ -55,7 +55,7 @@ pub fn is_moved(outcome: Outcome) -> bool
 // How many more writes there may be: none after one that failed or took nothing, and one less after one that was interrupted.
 pub fn writes_left(outcome: Outcome, left: u64) -> u64
     requires { ⌜ 1 ≤ left ⌝ }
-    ensures { λ r. ⌜ r ≡ writesLeft outcome left ⌝ }
+    ensures { λ r. ⌜ r ≡ writesLeft left outcome ⌝ }
 {
     match outcome {
         Outcome::Moved(n) => {
@@ -72,7 +72,7 @@ pub fn writes_left(outcome: Outcome, left: u64) -> u64
 // How many more reads there may be: none but after one that was interrupted.
 pub fn reads_left(outcome: Outcome, left: u64) -> u64
     requires { ⌜ 1 ≤ left ⌝ }
-    ensures { λ r. ⌜ r ≡ readsLeft outcome left ⌝ }
+    ensures { λ r. ⌜ r ≡ readsLeft left outcome ⌝ }
 {
     match outcome {
         Outcome::Moved(_) => 0,

@@ -6,8 +6,8 @@ ghost use Rattle.station.specs.Calls.{movedBy};
 use crate::call::Outcome;
 use crate::call::budget;
 use crate::call::is_moved;
+use crate::call::meaning;
 use crate::call::moved;
-use crate::call::outcome;
 use crate::call::reads_left;
 use libc::STDIN_FILENO;
 
@@ -22,7 +22,7 @@ fn read_some(block: &mut [u8]) -> Outcome
 {
     let got = libc::read(STDIN_FILENO, block);
     let error = os::errno();
-    outcome(got, error, block)
+    meaning(got, error, block)
 }
 
 // Reads a block. An interrupted read is made again.

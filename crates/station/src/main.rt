@@ -79,7 +79,7 @@ fn serve(session: Session, block: &[u8], have: usize, out: &mut [u8]) -> Served
 // How many more blocks may be read: none after the end of the input or of the session, or after a failure.
 fn blocks_left(left: u64, heard: Heard, written: bool, ended: bool) -> u64
     requires { ⌜ 1 ≤ left ⌝ }
-    ensures { λ r. ⌜ (r + 1 ≤ left) × (r ≡ pick (ltb 0 (heard .have) && ((heard .ok) && (written && not ended))) (left - 1) 0) ⌝ }
+    ensures { λ r. ⌜ (r + 1 ≤ left) × (r ≡ pick (((ltb 0 (heard .have) && heard .ok) && written) && not ended) (left - 1) 0) ⌝ }
 {
     if (0 < heard.have) & heard.ok & written & !ended {
         return left - 1;

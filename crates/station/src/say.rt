@@ -4,8 +4,8 @@ ghost use lib.ListN.{length};
 ghost use Rattle.station.specs.Calls.{movedBy};
 use crate::call::Outcome;
 use crate::call::budget;
+use crate::call::meaning;
 use crate::call::moved;
-use crate::call::outcome;
 use crate::call::writes_left;
 
 fn write_some(fd: i32, part: &[u8]) -> Outcome
@@ -13,7 +13,7 @@ fn write_some(fd: i32, part: &[u8]) -> Outcome
 {
     let got = libc::write(fd, part);
     let error = os::errno();
-    outcome(got, error, part)
+    meaning(got, error, part)
 }
 
 // Writes the first n bytes, each once and in order, and says whether all were taken. A write that took a part, or was interrupted, goes on where it

@@ -6,10 +6,10 @@ use Rattle.station.proofs.main.Statement.{statement}
 use Rattle.station.proofs.main.Tie as tie
 
 abbrev Inv-loop : tie.InvT-loop
-Inv-loop session₀ block₀ out₀ left₀ session block out left = (length block ≡ 65536) × (length out ≡ 65536)
+Inv-loop session₀ block₀ out₀ read₀ written₀ left₀ session block out read written left = (length block ≡ 65536) × (length out ≡ 65536)
 
 abbrev μ-loop : tie.MeasureT-loop
-μ-loop session₀ block₀ out₀ left₀ session block out left = left
+μ-loop session₀ block₀ out₀ read₀ written₀ left₀ session block out read written left = left
 
 start-requires : tie.Need-start-requires Inv-loop μ-loop
 start-requires c κs = search needs
@@ -26,14 +26,14 @@ slice-aggregate-block c = search needs
 slice-aggregate-out : tie.Need-slice-aggregate-out Inv-loop μ-loop
 slice-aggregate-out c = search needs
 
+budget-requires : tie.Need-budget-requires Inv-loop μ-loop
+budget-requires c κs = search needs
+
 loop-holds : tie.Need-loop-holds Inv-loop μ-loop
 loop-holds c = search needs
 
-read-requires : tie.Need-read-requires Inv-loop μ-loop
-read-requires c κs = search needs
-
-count-requires : tie.Need-count-requires Inv-loop μ-loop
-count-requires c κs = search needs
+hear-requires : tie.Need-hear-requires Inv-loop μ-loop
+hear-requires c κs = search needs
 
 serve-requires : tie.Need-serve-requires Inv-loop μ-loop
 serve-requires c κs = search needs
@@ -50,8 +50,8 @@ loop-less c = search needs
 loop-again : tie.Need-loop-again Inv-loop μ-loop
 loop-again c = search needs
 
-close-requires : tie.Need-close-requires Inv-loop μ-loop
-close-requires c κs = search needs
+part-requires : tie.Need-part-requires Inv-loop μ-loop
+part-requires c κs = search needs
 
 returns : tie.Need-returns Inv-loop μ-loop
 returns c = search needs
@@ -67,13 +67,13 @@ main-spec =
     large-buffer-requires-2
     slice-aggregate-block
     slice-aggregate-out
+    budget-requires
     loop-holds
-    read-requires
-    count-requires
+    hear-requires
     serve-requires
     ended-requires
     blocks-left-requires
     loop-less
     loop-again
-    close-requires
+    part-requires
     returns)

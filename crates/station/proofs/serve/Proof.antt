@@ -1,65 +1,71 @@
--- `serve` feeds exactly the block's first bytes. Assumes nothing.
+-- `serve` hands over exactly the block's first bytes. Assumes nothing.
 use Prim.Native.Nat.{_-_, _*_, _≤_}
-use mathlib.Core.Path.{_≡_, refl, sym, subst}
 use native.Mathlib.Omega.{arith}
-use borrow.Author.Needs.{needs}
-use Prim.Native.Nat.{ℕ}
-use mathlib.Core.List.{List, []}
+use mathlib.Core.Path.{_≡_, refl, sym, _∙_}
+use lib.Dec.{ltb}
 use lib.ListN.{length}
-use Rattle.session.specs.declared.feed.Session.{Session}
-use Rattle.session.specs.Pieces.{Feeds}
-use Rattle.session.specs.Pieces.Feeds.{none}
-use Rattle.station.specs.Serving.{Led}
-use Rattle.station.proofs.Serving.{left, left-on, left-none, left-all, led-on}
+use borrow.Author.Needs.{needs}
+use borrow.Author.Tests.{ltb-true}
 use borrow.Rule.Slice.PartMut.{mid-len}
 use Rattle.units.specs.Limits.{lineTop}
+use Rattle.units.proofs.Every.{and-left}
+use Rattle.station.proofs.Serving.{Handing, starts, goes-on, ends}
 use Rattle.station.proofs.serve.Statement.{statement}
 use Rattle.station.proofs.serve.Tie as tie
 
 abbrev Inv-loop : tie.InvT-loop
-Inv-loop block have out₀ next₀ at₀ filled₀ out next at filled = (have ≤ length block) × (2 * lineTop ≤ length out) × (length out ≡ length out₀) × (at ≤ have) × (filled ≤ length out) × ((n : Session) (t : List ℕ) → Feeds next (left block have at) t n → Led next₀ (left block have at₀) n)
+Inv-loop block have out₀ next₀ at₀ written₀ out next at written = (have ≤ length block) × (2 * lineTop ≤ length out) × Handing next₀ block have at next × (length out ≡ length out₀)
 
 abbrev μ-loop : tie.MeasureT-loop
-μ-loop block have out₀ next₀ at₀ filled₀ out next at filled = have - at
+μ-loop block have out₀ next₀ at₀ written₀ out next at written = have - at
 
 loop-holds : tie.Need-loop-holds Inv-loop μ-loop
-loop-holds c = (omega (arith, c .before .before .pre .0), omega (arith, c .before .before .pre .1), refl, omega arith, omega arith, λ n t f. record { text = t; calls = f })
+loop-holds c = (c .before .before .pre .0, c .before .before .pre .1, starts _ _ _, refl)
 
-with-room-requires : tie.Need-with-room-requires Inv-loop μ-loop
-with-room-requires c κs = let i = c .before .before .loop .inv in (i .4, i .1)
+goes-on-requires : tie.Need-goes-on-requires Inv-loop μ-loop
+goes-on-requires c κs = search needs
 
 sub-hand : tie.Need-sub-hand Inv-loop μ-loop
-sub-hand c = search needs
+sub-hand c = c .before .before .loop .inv .2 .within
 
 part-hand-start : tie.Need-part-hand-start Inv-loop μ-loop
-part-hand-start c = search needs
+part-hand-start c = c .before .before .loop .inv .2 .within
 
 part-hand-end : tie.Need-part-hand-end Inv-loop μ-loop
-part-hand-end c = search needs
+part-hand-end c = c .before .before .loop .inv .0
 
 hand-requires : tie.Need-hand-requires Inv-loop μ-loop
-hand-requires c κs = let a = c .before .before .before .before .before .before .before .before .args in let i = c .before .before .before .before .before .loop .inv in let m = mid-len (c .before .before .before .before .before .loop .at) (a .have) (a .block .now) (i .0) in (omega (arith, m, c .before .before .before .before .loop-test .taken), c .before .before .with-room .ensures)
+hand-requires c κs =
+    let a = c .before .before .before .before .before .before .before .args in
+    let k = c .before .before .before .before .loop in
+    let m = mid-len (k .at) (a .have) (a .block .now) (k .inv .0) in
+    let t = ltb-true (k .at) (a .have) (and-left (ltb (k .at) (a .have)) (k .written) (sym (c .before .before .before .goes-on .ensures) ∙ c .before .before .if1 .taken)) in (omega (arith, m, t), k .inv .1)
 
 add-at : tie.Need-add-at Inv-loop μ-loop
-add-at c = let a = c .before .before .before .before .before .before .before .before .before .before .before .before .before .args in let i = c .before .before .before .before .before .before .before .before .before .before .loop .inv in let m = mid-len (c .before .before .before .before .before .before .before .before .before .before .loop .at) (a .have) (a .block .now) (i .0) in let h = c .before .before .before .before .hand .ensures in omega (arith, m, h .0, h .1, i .0, i .3, c .before .before .before .before .before .before .before .before .before .before .before .before .before .fits)
-
-add-filled : tie.Need-add-filled Inv-loop μ-loop
-add-filled c = let a = c .before .before .before .before .before .before .before .before .before .before .before .before .before .before .args in let i = c .before .before .before .before .before .before .before .before .before .before .before .loop .inv in let m = mid-len (c .before .before .before .before .before .before .before .before .before .before .before .loop .at) (a .have) (a .block .now) (i .0) in let h = c .before .before .before .before .before .hand .ensures in omega (arith, h .2, i .2, c .before .before .before .before .before .before .before .before .before .before .before .before .before .before .pre .2)
+add-at c =
+    let s = c .before .before .before .before .before .before .before .before .before .before .before .before in
+    let k = c .before .before .before .before .before .before .before .before .before .loop in
+    let m = mid-len (k .at) (s .args .have) (s .args .block .now) (k .inv .0) in
+    let h = goes-on _ _ _ (k .inv .2) m (c .before .before .before .before .hand .ensures) in omega (arith, h .within, s .fits)
 
 loop-less : tie.Need-loop-less Inv-loop μ-loop
-loop-less c = let a = c .before .before .before .before .before .before .before .before .before .before .before .before .before .before .args in let i = c .before .before .before .before .before .before .before .before .before .before .before .loop .inv in let m = mid-len (c .before .before .before .before .before .before .before .before .before .before .before .loop .at) (a .have) (a .block .now) (i .0) in let h = c .before .before .before .before .before .hand .ensures in omega (arith, m, h .0, h .1, h .2, i .0, i .3)
+loop-less c =
+    let s = c .before .before .before .before .before .before .before .before .before .before .before .before in
+    let k = c .before .before .before .before .before .before .before .before .before .loop in
+    let m = mid-len (k .at) (s .args .have) (s .args .block .now) (k .inv .0) in
+    let h = goes-on _ _ _ (k .inv .2) m (c .before .before .before .before .hand .ensures) in omega (arith, h .within, c .before .before .before .before .hand .ensures .some)
 
 loop-again : tie.Need-loop-again Inv-loop μ-loop
-loop-again c = let a = c .before .before .before .before .before .before .before .before .before .before .before .before .before .before .args in let i = c .before .before .before .before .before .before .before .before .before .before .before .loop .inv in let m = mid-len (c .before .before .before .before .before .before .before .before .before .before .before .loop .at) (a .have) (a .block .now) (i .0) in let h = c .before .before .before .before .before .hand .ensures in (i .0, omega arith, omega arith, omega (arith, m, h .1, i .3), omega (arith, h .2), λ n t f. let k = c .before .before .before .before .before .before .before .before .before .before .before .loop in let r = c .before .before .before .before .before .hand .result in let u = led-on (k .next) n (left (a .block .now) (a .have) (k .at)) t _ r (h .3) (subst (λ (l : List ℕ). Feeds (r .next) l t n) (sym (left-on (a .block .now) (a .have) (k .at) (r .took))) f) in i .5 n (u .text) (u .calls))
-
-say-requires : tie.Need-say-requires Inv-loop μ-loop
-say-requires c κs = let i = c .before .before .loop .inv in i .4
+loop-again c =
+    let s = c .before .before .before .before .before .before .before .before .before .before .before .before in
+    let k = c .before .before .before .before .before .before .before .before .before .loop in
+    let m = mid-len (k .at) (s .args .have) (s .args .block .now) (k .inv .0) in (k .inv .0, omega (arith, k .inv .1), goes-on _ _ _ (k .inv .2) m (c .before .before .before .before .hand .ensures), omega (arith, k .inv .3))
 
 same-length : tie.Need-same-length Inv-loop μ-loop
-same-length c = search needs
+same-length c = c .before .before .loop .inv .3
 
 returns : tie.Need-returns Inv-loop μ-loop
-returns c = let a = c .before .before .before .before .before .before .args in let k = c .before .before .before .loop in let i = k .inv in let w = i .5 (k .next) [] (subst (λ (l : List ℕ). Feeds (k .next) l [] (k .next)) (sym (left-none (a .block .now) (a .have) (k .at) (c .before .before .loop-test .left))) none) in subst (λ (l : List ℕ). Led (a .session) l (k .next)) (left-all (a .block .now) (a .have)) w
+returns c = ends _ _ _ (c .before .before .loop .inv .2) (sym (c .before .goes-on .ensures) ∙ c .if1 .left)
 
 pub serve-spec : {M : Type 1} → statement M
 serve-spec =
@@ -68,15 +74,13 @@ serve-spec =
     Inv-loop
     μ-loop
     loop-holds
-    with-room-requires
+    goes-on-requires
     sub-hand
     part-hand-start
     part-hand-end
     hand-requires
     add-at
-    add-filled
     loop-less
     loop-again
-    say-requires
     same-length
     returns)

@@ -1,0 +1,32 @@
+-- `moved` meets its contract. Assumes nothing.
+use mathlib.Core.Path.{refl}
+use borrow.Author.Needs.{needs}
+use Rattle.units.proofs.Picked.{along}
+use Rattle.station.specs.Calls.{movedBy}
+use Rattle.station.proofs.call.moved.Statement.{statement}
+use Rattle.station.proofs.call.moved.Tie as tie
+
+enum-known-outcome : tie.Need-enum-known-outcome
+enum-known-outcome c = search needs
+
+enum-told : tie.Need-enum-told
+enum-told c = search needs
+
+enum-told-2 : tie.Need-enum-told-2
+enum-told-2 c = search needs
+
+returns : tie.Need-returns
+unfolding movedBy
+returns c = along movedBy (c .before .outcome .given .1) refl
+
+returns-2 : tie.Need-returns-2
+unfolding movedBy
+returns-2 c = along movedBy (c .enum-told .given .1) refl
+
+returns-3 : tie.Need-returns-3
+unfolding movedBy
+returns-3 c = along movedBy (c .enum-told2 .given .1) refl
+
+pub moved-spec : {M : Type 1} → statement M
+moved-spec =
+    tie.close (tie.spec enum-known-outcome enum-told enum-told-2 returns returns-2 returns-3)
