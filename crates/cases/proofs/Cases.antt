@@ -4,24 +4,22 @@ use native.Mathlib.Omega.{arith}
 use mathlib.Core.Path.{_≡_, refl, ap, subst}
 use mathlib.Core.Bool.{Bool, true, false, _&&_}
 use mathlib.Core.List.{List, [], _∷_}
-use lib.Count.{ones}
-use lib.Ieee.{fits, ofInt, ofBits, toBits, lt, le, add, sub, mul, div}
-use Rattle.units.specs.Every.{every}
-use Rattle.units.specs.Pick.{pick}
-use Rattle.units.specs.Settings.{groupFits}
 use Rattle.units.proofs.Every.{and-left, and-right}
 use Rattle.vote.specs.declared.judge.Decision.{Decision}
 use Rattle.vote.specs.declared.judge.Decision.the-variants.{Undecided, Decided, Refused}
-use Rattle.vote.specs.Digest.{legal, same, rank, unrank, full, least}
-use Rattle.vote.specs.Vote.{Answers, seatFits, seatsFit, votesFit}
-use Rattle.vote.specs.Decision.{tallyOf, strengthOf, largest, otherThan, outsider, missingOf, heldOff, rivalOf, settledAt, settled, decision}
+use Rattle.vote.specs.Digest.{same}
+use Rattle.vote.specs.Vote.{Answers}
+use Rattle.vote.specs.Decision.{decision}
 use Rattle.vote.proofs.Order.{same-true}
 use Rattle.vote.proofs.Answer.{decision-exact}
-use Rattle.floats.specs.Bits.{ofWhole, bitsOf, sameFloat}
+use Rattle.vote.proofs.Computes.{digest-computes, judge-computes}
+use Rattle.floats.specs.Bits.{ofWhole, sameFloat}
 use Rattle.floats.specs.Ranges.{sameEstimate}
 use Rattle.floats.proofs.Limits.{same-is}
 use Rattle.floats.proofs.Places.{same-estimate-is}
-use Rattle.filter.specs.Run.{atMost, limited, grown, measured, gain, moved, shrunk, outcome}
+use Rattle.floats.proofs.Computes.{float-computes, range-computes}
+use Rattle.filter.specs.Run.{measured}
+use Rattle.filter.proofs.Computes.{run-computes}
 use Rattle.cases.specs.Table.{RunCase, Part, chosen, left, Row, judged, run, votesOf, numbered, spelt, carried, Measures, Holds, Each, table}
 
 -- ---- the test
@@ -93,5 +91,5 @@ each (r ∷ rs) h = (holds r (and-left (test r) (testEach rs) h), each rs (and-r
 
 -- v1 to v12, c1 and c2
 pub cases : Each table
-unfolding table testEach test sameDecision decision settled settledAt rivalOf heldOff missingOf outsider otherThan largest strengthOf tallyOf votesFit seatsFit seatFits groupFits every legal same rank unrank full least ones pick measures leaves sameEstimate sameFloat bitsOf atMost limited grown measured gain moved shrunk outcome fits ofInt ofBits toBits lt le add sub mul div
+unfolding table testEach test sameDecision measures leaves digest-computes judge-computes range-computes run-computes float-computes
 cases = each table refl

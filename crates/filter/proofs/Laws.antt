@@ -2,7 +2,7 @@
 use mathlib.Core.Path.{_≡_, refl, sym, _∙_, ap, subst}
 use mathlib.Core.Bool.{Bool, true, false}
 use mathlib.Core.List.{List, [], _∷_}
-use Prim.Native.Nat.{ℕ, zero, suc, _+_, _*_, _^_, _≤_, _<_, min, zero-le, suc-le-suc}
+use Prim.Native.Nat.{ℕ, suc, _+_, _*_, _^_, _≤_, _<_, min, zero-le, suc-le-suc}
 use native.Mathlib.Nat.{le-trans, le-of-eq, zero-add, add-zero, zero-lt-suc}
 use native.Mathlib.Omega.{arith}
 use lib.Dec.{T, ltb, lit≤}
@@ -19,7 +19,6 @@ use Rattle.units.specs.Labels.{correction}
 use Rattle.units.specs.Limits.{xTop, varianceTop, targetTop, weightTop}
 use Rattle.units.specs.Mask.{inMask}
 use Rattle.units.specs.Settings.{numbersFit}
-use Rattle.units.specs.Tab.{tab}
 use Rattle.units.proofs.InRange.{numbers-range}
 use Rattle.floats.specs.Bits.{nought}
 use Rattle.floats.specs.Ranges.{upTo, estimateFits, noEstimate, stateFits, targetsFit}

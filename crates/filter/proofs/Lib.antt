@@ -5,3 +5,4 @@ pub mod Rounding
 pub mod Laws
 pub mod Inputs
 pub mod Exact
+pub mod Computes

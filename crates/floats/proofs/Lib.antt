@@ -2,3 +2,4 @@
 pub mod Encoding
 pub mod Limits
 pub mod Places
+pub mod Computes

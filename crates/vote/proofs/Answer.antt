@@ -1,6 +1,6 @@
 -- `decision` is decided exactly when every completion has the same winner, `winning` is the winner, and each question has one answer.
 -- These are all that the layers above use of the vote. Assumes nothing.
-use Prim.Native.Nat.{ℕ, _+_, _*_, _%_, _^_, _≤_, _<_}
+use Prim.Native.Nat.{ℕ, _+_, _*_, _%_, _≤_, _<_}
 use native.Mathlib.Omega.{arith}
 use native.Mathlib.Decide.{decLe}
 use mathlib.Core.Path.{_≡_, refl, sym, ap, subst, subst⁻¹, _∙_}
@@ -20,7 +20,7 @@ use Rattle.vote.specs.declared.judge.Decision.{Decision}
 use Rattle.vote.specs.declared.judge.Decision.the-variants.{Undecided, Decided, Refused}
 use Rattle.vote.specs.declared.judge.Poll.{Poll}
 use Rattle.vote.specs.declared.judge.Poll.the-variants.{Nobody, Won, Refused as Denied}
-use Rattle.vote.specs.Digest.{legal, rank, unrank}
+use Rattle.vote.specs.Digest.{rank, unrank}
 use Rattle.vote.specs.Vote.{total, count, missing, Wins, Decides, Answers, Names, ballotOf, allBallots, ballots, rankOf, votesFit}
 use Rattle.vote.specs.Decision.{seat, ranksOf, strengths, largest, missingOf, heldOff, rivalOf, settledAt, settled, decision, strongestAt, winning}
 use Rattle.vote.proofs.Order.{same-dec, unrank-rank, rank-below}

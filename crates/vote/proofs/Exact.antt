@@ -1,5 +1,5 @@
 -- A set of votes is decided for d exactly where d has a vote and every other legal digest, given all the missing votes, stays behind. Assumes nothing.
-use Prim.Native.Nat.{ℕ, _+_, _*_, _^_, _≤_, _<_}
+use Prim.Native.Nat.{ℕ, _+_, _*_, _≤_, _<_}
 use native.Mathlib.Omega.{arith}
 use native.Mathlib.Decide.{decLe, decLt}
 use native.Mathlib.Nat.{le-antisymm}

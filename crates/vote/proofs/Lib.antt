@@ -11,3 +11,4 @@ pub mod Strength
 pub mod Rule
 pub mod Answer
 pub mod Decided
+pub mod Computes

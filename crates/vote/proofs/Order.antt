@@ -5,7 +5,7 @@ use native.Mathlib.Decide.{decLe}
 use native.Mathlib.Nat.{le-refl}
 use mathlib.Core.Logic.{_⊎_, inl, inr, by-cases}
 use mathlib.Core.Path.{_≡_, refl, sym, ap, _∙_}
-use mathlib.Core.Bool.{Bool, true, false, _&&_}
+use mathlib.Core.Bool.{Bool, true, false}
 use lib.Count.{ones, ones-le, ones-ones, ones-step}
 use lib.Dec.{eqb}
 use lib.Pow.{pow-mono}

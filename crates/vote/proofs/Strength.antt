@@ -1,19 +1,18 @@
 -- Ranks stand for legal votes: their tallies are the counts, and the strongest is the winner. Assumes nothing.
-use Prim.Native.Nat.{ℕ, _+_, _*_, _^_, _≤_}
+use Prim.Native.Nat.{ℕ, _+_, _*_, _≤_}
 use native.Mathlib.Omega.{arith}
 use native.Mathlib.Decide.{decLe}
 use mathlib.Core.Path.{_≡_, refl, ap}
 use mathlib.Core.Bool.{true}
 use mathlib.Core.List.{List, [], _∷_, map}
 use mathlib.Core.Logic.{_⊎_, inl, inr, ⊎-elim, by-cases}
-use lib.Dec.{eqb}
 use borrow.Author.Tests.{eq-eqb, ne-eqb}
 use Rattle.units.specs.declared.labels.RoundLabel.{RoundLabel}
 use Rattle.units.specs.Pick.{pick}
 use Rattle.vote.specs.declared.digest.Digest.{Digest}
 use Rattle.vote.specs.declared.votes.Ballot.{Ballot}
 use Rattle.vote.specs.declared.votes.Ballot.the-variants.{Missing, Cast}
-use Rattle.vote.specs.Digest.{legal, same, rank, least}
+use Rattle.vote.specs.Digest.{legal, rank}
 use Rattle.vote.specs.Vote.{bit, votesFor, total, count, missing, rankOf}
 use Rattle.vote.specs.Decision.{seat, tallyOf, strengthOf, largest}
 use Rattle.vote.proofs.Order.{Round, same-dec, rank-injective, rank-below, least-smallest, least-some}

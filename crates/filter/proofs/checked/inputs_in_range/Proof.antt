@@ -39,8 +39,10 @@ readings-in-range-requires c κs = search needs
 
 returns : tie.Need-returns
 returns c =
-    let a = c .before .before .before .before .before .args in
-    made (a .label) (a .base) (a .state) (a .numbers) (a .chosen) (a .readings) _ _ _ _ _ (c .before .before .before .before .in-range .ensures) (c .before .before .before .state-in-range .ensures) (c .before .before .before2 .ensures) (c .before .mask-in-range .ensures) (c .readings-in-range .ensures)
+    let station = c .before .before .before in
+    let a = station .before .before .args in
+    made (a .label) (a .base) (a .state) (a .numbers) (a .chosen) (a .readings) _ _ _ _ _ (station .before .in-range .ensures) (station .state-in-range .ensures)
+    (c .before .before .before2 .ensures) (c .before .mask-in-range .ensures) (c .readings-in-range .ensures)
 
 pub inputs-in-range-spec : {M : Type 1} → statement M
 inputs-in-range-spec =

@@ -1,5 +1,5 @@
 -- `held_off` meets its contract. Assumes nothing.
-use Prim.Native.Nat.{_-_, _*_, _^_}
+use Prim.Native.Nat.{_-_, _*_}
 use mathlib.Core.Path.{refl, sym}
 use native.Mathlib.Omega.{arith}
 use Rattle.units.proofs.Picked.{by-yes, by-no}

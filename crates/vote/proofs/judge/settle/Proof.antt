@@ -26,10 +26,20 @@ unrank-requires : tie.Need-unrank-requires
 unrank-requires c κs = search needs
 
 returns-2 : tie.Need-returns-2
-returns-2 c = let a = c .before .before .before .before .before .before .before .before .args in settled-yes (a .ranks) _ _ (c .before .before .before .before .before .before .before .strengths-of .ensures) (c .before .before .before .before .before .before .largest-of .ensures) (a .group) (a .label) (c .before .before .before .before .before .if1 .left) _ _ (c .before .before .before .before .rival-of .ensures) (c .before .before .before .missing-of .ensures .0) _ (c .before .before .held-off .ensures) (c .before .if2 .taken) _ (c .unrank .ensures)
+returns-2 c =
+    let met = c .before .before .before .before in
+    let led = met .before .before in
+    let a = led .before .before .args in
+    settled-yes (a .ranks) _ _ (led .before .strengths-of .ensures) (led .largest-of .ensures) (a .group) (a .label) (met .before .if1 .left) _ _
+    (met .rival-of .ensures) (c .before .before .before .missing-of .ensures .0) _ (c .before .before .held-off .ensures) (c .before .if2 .taken) _ (c .unrank .ensures)
 
 returns-3 : tie.Need-returns-3
-returns-3 c = let a = c .before .before .before .before .before .before .before .args in settled-no (a .ranks) _ _ (c .before .before .before .before .before .before .strengths-of .ensures) (c .before .before .before .before .before .largest-of .ensures) (a .group) (a .label) (c .before .before .before .before .if1 .left) _ _ (c .before .before .before .rival-of .ensures) (c .before .before .missing-of .ensures .0) _ (c .before .held-off .ensures) (c .if2 .left)
+returns-3 c =
+    let met = c .before .before .before in
+    let led = met .before .before in
+    let a = led .before .before .args in
+    settled-no (a .ranks) _ _ (led .before .strengths-of .ensures) (led .largest-of .ensures) (a .group) (a .label) (met .before .if1 .left) _ _
+    (met .rival-of .ensures) (c .before .before .missing-of .ensures .0) _ (c .before .held-off .ensures) (c .if2 .left)
 
 pub settle-spec : {M : Type 1} → statement M
 settle-spec =

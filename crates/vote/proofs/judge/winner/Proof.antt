@@ -24,11 +24,20 @@ unrank-requires c κs = search needs
 
 returns : tie.Need-returns
 unfolding winning
-returns c = let v = c .before .before .before .before .before .before .before .args .v in by-yes _ (sym (c .before .before .before .before .before .before .in-range .ensures) ∙ c .before .before .before .before .before .if1 .taken) (nobody-won (ranksOf (v .seats)) _ _ (c .before .before .strengths-of .ensures ∙ ap strengths (c .before .before .before .ranks-of .ensures)) (c .before .largest-of .ensures) (c .if2 .taken))
+returns c =
+    let seen = c .before .before .before in
+    let v = seen .before .before .before .before .args .v in
+    by-yes _ (sym (seen .before .before .before .in-range .ensures) ∙ seen .before .before .if1 .taken)
+    (nobody-won (ranksOf (v .seats)) _ _ (c .before .before .strengths-of .ensures ∙ ap strengths (seen .ranks-of .ensures)) (c .before .largest-of .ensures) (c .if2 .taken))
 
 returns-2 : tie.Need-returns-2
 unfolding winning
-returns-2 c = let v = c .before .before .before .before .before .before .before .before .args .v in by-yes _ (sym (c .before .before .before .before .before .before .before .in-range .ensures) ∙ c .before .before .before .before .before .before .if1 .taken) (somebody-won (ranksOf (v .seats)) _ _ (c .before .before .before .strengths-of .ensures ∙ ap strengths (c .before .before .before .before .ranks-of .ensures)) (c .before .before .largest-of .ensures) (c .before .if2 .left) _ (c .unrank .ensures))
+returns-2 c =
+    let seen = c .before .before .before .before in
+    let v = seen .before .before .before .before .args .v in
+    by-yes _ (sym (seen .before .before .before .in-range .ensures) ∙ seen .before .before .if1 .taken)
+    (somebody-won (ranksOf (v .seats)) _ _ (c .before .before .before .strengths-of .ensures ∙ ap strengths (seen .ranks-of .ensures))
+    (c .before .before .largest-of .ensures) (c .before .if2 .left) _ (c .unrank .ensures))
 
 returns-3 : tie.Need-returns-3
 unfolding winning

@@ -35,11 +35,19 @@ loop-less c = omega arith
 
 loop-again : tie.Need-loop-again Inv-loop μ-loop
 unfolding largest
-loop-again c = let l = c .before .before .before .args .t1 in let i = c .before .before .loop .i in let h : i < length l = omega arith in (omega arith, largest-turn largest (λ x. x) refl (λ x l. refl) l i _ _ _ h (c .before .before .loop .inv .1) (c .larger .ensures))
+loop-again c =
+    let l = c .before .before .before .args .t1 in
+    let i = c .before .before .loop .i in
+    let h : i < length l = omega arith in
+    (omega arith, largest-turn largest (λ x. x) refl (λ x l. refl) l i _ _ _ h (c .before .before .loop .inv .1) (c .larger .ensures))
 
 returns : tie.Need-returns Inv-loop μ-loop
 unfolding largest
-returns c = let l = c .before .before .args .t1 in let i = c .before .loop .i in let h : length l ≤ i = omega arith in largest-end largest (λ x. x) refl (λ x l. refl) l i _ _ h (c .before .loop .inv .1)
+returns c =
+    let l = c .before .before .args .t1 in
+    let i = c .before .loop .i in
+    let h : length l ≤ i = omega arith in
+    largest-end largest (λ x. x) refl (λ x l. refl) l i _ _ h (c .before .loop .inv .1)
 
 pub largest-of-spec : {M : Type 1} → statement M
 largest-of-spec =

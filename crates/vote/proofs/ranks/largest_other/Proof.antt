@@ -38,11 +38,21 @@ loop-less c = omega arith
 
 loop-again : tie.Need-loop-again Inv-loop μ-loop
 unfolding largest
-loop-again c = let x = c .before .before .before .before .args .x in let l = c .before .before .before .before .args .t1 in let i = c .before .before .before .loop .i in let h : i < length l = omega arith in (omega arith, largest-turn (λ l. largest (othersThan x l)) (otherThan x) refl (λ y l. refl) l i _ _ _ h (c .before .before .before .loop .inv .1) (c .larger .ensures ∙ ap (max _) (c .before .other-than .ensures)))
+loop-again c =
+    let x = c .before .before .before .before .args .x in
+    let l = c .before .before .before .before .args .t1 in
+    let i = c .before .before .before .loop .i in
+    let h : i < length l = omega arith in
+    (omega arith, largest-turn (λ l. largest (othersThan x l)) (otherThan x) refl (λ y l. refl) l i _ _ _ h (c .before .before .before .loop .inv .1) (c .larger .ensures ∙ ap (max _) (c .before .other-than .ensures)))
 
 returns : tie.Need-returns Inv-loop μ-loop
 unfolding largest
-returns c = let x = c .before .before .args .x in let l = c .before .before .args .t1 in let i = c .before .loop .i in let h : length l ≤ i = omega arith in largest-end (λ l. largest (othersThan x l)) (otherThan x) refl (λ y l. refl) l i _ _ h (c .before .loop .inv .1)
+returns c =
+    let x = c .before .before .args .x in
+    let l = c .before .before .args .t1 in
+    let i = c .before .loop .i in
+    let h : length l ≤ i = omega arith in
+    largest-end (λ l. largest (othersThan x l)) (otherThan x) refl (λ y l. refl) l i _ _ h (c .before .loop .inv .1)
 
 pub largest-other-spec : {M : Type 1} → statement M
 largest-other-spec =

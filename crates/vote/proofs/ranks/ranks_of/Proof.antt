@@ -42,10 +42,22 @@ loop-less : tie.Need-loop-less Inv-loop μ-loop
 loop-less c = omega arith
 
 loop-again : tie.Need-loop-again Inv-loop μ-loop
-loop-again c = let l = c .before .before .before .before .args .t1 in let i = c .before .before .before .loop .i in let v = c .before .before .before .loop .inv in let h : i < length l = omega arith in let k : i < length (c .before .before .before .loop .ranks) = omega (arith, v .1) in (omega arith, simp length-set (v .1), built-step (λ s. rankOf (s .ballot)) l _ i _ _ h k (v .2) (c .rank .ensures))
+loop-again c =
+    let l = c .before .before .before .before .args .t1 in
+    let i = c .before .before .before .loop .i in
+    let v = c .before .before .before .loop .inv in
+    let h : i < length l = omega arith in
+    let k : i < length (c .before .before .before .loop .ranks) = omega (arith, v .1) in
+    (omega arith, simp length-set (v .1), built-step (λ s. rankOf (s .ballot)) l _ i _ _ h k (v .2) (c .rank .ensures))
 
 returns : tie.Need-returns Inv-loop μ-loop
-returns c = let l = c .before .before .args .t1 in let i = c .before .loop .i in let v = c .before .loop .inv in let h : length l ≤ i = omega arith in let k : length (c .before .loop .ranks) ≤ i = omega (arith, v .1) in built-end (λ s. rankOf (s .ballot)) l _ i h k (v .2)
+returns c =
+    let l = c .before .before .args .t1 in
+    let i = c .before .loop .i in
+    let v = c .before .loop .inv in
+    let h : length l ≤ i = omega arith in
+    let k : length (c .before .loop .ranks) ≤ i = omega (arith, v .1) in
+    built-end (λ s. rankOf (s .ballot)) l _ i h k (v .2)
 
 pub ranks-of-spec : {M : Type 1} → statement M
 ranks-of-spec =

@@ -41,10 +41,22 @@ loop-less : tie.Need-loop-less Inv-loop μ-loop
 loop-less c = omega arith
 
 loop-again : tie.Need-loop-again Inv-loop μ-loop
-loop-again c = let l = c .before .before .before .args .t1 in let i = c .before .before .loop .i in let h : i < length l = omega arith in let v = c .before .before .loop .inv in let k : i < length (c .before .before .loop .found) = omega (arith, v .1) in (omega arith, simp length-set (v .1), built-step (strengthOf l) l _ i _ _ h k (v .2) (c .strength .ensures))
+loop-again c =
+    let l = c .before .before .before .args .t1 in
+    let i = c .before .before .loop .i in
+    let h : i < length l = omega arith in
+    let v = c .before .before .loop .inv in
+    let k : i < length (c .before .before .loop .found) = omega (arith, v .1) in
+    (omega arith, simp length-set (v .1), built-step (strengthOf l) l _ i _ _ h k (v .2) (c .strength .ensures))
 
 returns : tie.Need-returns Inv-loop μ-loop
-returns c = let l = c .before .before .args .t1 in let i = c .before .loop .i in let h : length l ≤ i = omega arith in let v = c .before .loop .inv in let k : length (c .before .loop .found) ≤ i = omega (arith, v .1) in built-end (strengthOf l) l _ i h k (v .2)
+returns c =
+    let l = c .before .before .args .t1 in
+    let i = c .before .loop .i in
+    let h : length l ≤ i = omega arith in
+    let v = c .before .loop .inv in
+    let k : length (c .before .loop .found) ≤ i = omega (arith, v .1) in
+    built-end (strengthOf l) l _ i h k (v .2)
 
 pub strengths-of-spec : {M : Type 1} → statement M
 strengths-of-spec =

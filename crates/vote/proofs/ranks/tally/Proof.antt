@@ -37,7 +37,11 @@ loop-less : tie.Need-loop-less Inv-loop μ-loop
 loop-less c = omega arith
 
 loop-again : tie.Need-loop-again Inv-loop μ-loop
-loop-again c = let l = c .before .before .before .args .t1 in let i = c .before .before .loop .i in let h : i < length l = omega arith in (omega arith, omega (arith, c .one-where-same .ensures .1), tally-turn _ l i _ _ _ h (c .before .before .loop .inv .2) (c .one-where-same .ensures .0))
+loop-again c =
+    let l = c .before .before .before .args .t1 in
+    let i = c .before .before .loop .i in
+    let h : i < length l = omega arith in
+    (omega arith, omega (arith, c .one-where-same .ensures .1), tally-turn _ l i _ _ _ h (c .before .before .loop .inv .2) (c .one-where-same .ensures .0))
 
 returns : tie.Need-returns Inv-loop μ-loop
 returns c = let l = c .before .before .args .t1 in let i = c .before .loop .i in let h : length l ≤ i = omega arith in (tally-end _ l i _ _ h (c .before .loop .inv .2), omega arith)

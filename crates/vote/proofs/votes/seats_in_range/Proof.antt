@@ -37,11 +37,17 @@ loop-less : tie.Need-loop-less Inv-loop μ-loop
 loop-less c = omega arith
 
 loop-again : tie.Need-loop-again Inv-loop μ-loop
-loop-again c = let a = c .before .before .before .before .before .args in (omega arith, every-more (seatAt (a .group) (a .label) (a .t1)) _ _ _ (c .before .before .before .before .loop .inv .1) (c .in-range .ensures))
+loop-again c =
+    let a = c .before .before .before .before .before .args in
+    (omega arith, every-more (seatAt (a .group) (a .label) (a .t1)) _ _ _ (c .before .before .before .before .loop .inv .1) (c .in-range .ensures))
 
 returns : tie.Need-returns Inv-loop μ-loop
 unfolding seatsFit
-returns c = let a = c .before .before .args in let e : c .before .loop .i ≡ 7 = omega arith in let long : length (a .t1) ≡ 7 = omega arith in rw (eq-eqb (length (a .t1)) 7 long) (c .before .loop .inv .1 ∙ ap (every (seatAt (a .group) (a .label) (a .t1))) e)
+returns c =
+    let a = c .before .before .args in
+    let e : c .before .loop .i ≡ 7 = omega arith in
+    let long : length (a .t1) ≡ 7 = omega arith in
+    rw (eq-eqb (length (a .t1)) 7 long) (c .before .loop .inv .1 ∙ ap (every (seatAt (a .group) (a .label) (a .t1))) e)
 
 pub seats-in-range-spec : {M : Type 1} → statement M
 seats-in-range-spec =
