@@ -13,9 +13,10 @@ use lib.Seq.{getD-set-same, getD-set-other}
 use borrow.Author.Tests.{le-leb}
 use Rattle.units.specs.Limits.{rawTop}
 use Rattle.units.specs.Mask.{inMask}
+use Rattle.units.specs.Reading.{readingPlace}
 use Rattle.units.proofs.Tab.{length-tab, getD-tab}
 use Rattle.units.proofs.Masks.{in-and, in-or}
-use Rattle.message.specs.Readings.{readingPlace, readingAt, readingsFit}
+use Rattle.message.specs.Readings.{readingAt, readingsFit}
 use Rattle.message.proofs.Ranges.{readings-length, readings-place, readings-made}
 use Rattle.controller.specs.Merge.{runBit, mergedAt, merged, selected}
 use Rattle.controller_laws.proofs.Masks.{in-run, not-in-run}

@@ -19,6 +19,7 @@ use Rattle.units.specs.Mask.{inMask, maskEnd}
 use Rattle.units.specs.Pick.{pick}
 use Rattle.units.specs.Refusal.{numberOf}
 use Rattle.units.specs.Settings.{numbersFit}
+use Rattle.units.specs.Reading.{readingPlace}
 use Rattle.units.proofs.Every.{and-left, and-right, and-both, and-three}
 use Rattle.units.proofs.Masks.{mask-end-is}
 use Rattle.units.proofs.Picked.{by-yes, by-no}
@@ -32,7 +33,7 @@ use Rattle.vote.specs.Vote.{seatFits, seatAt, seatsFit, nobody}
 use Rattle.message.specs.declared.head.Head.{Head}
 use Rattle.message.specs.declared.value.Message.{Message}
 use Rattle.message.specs.Message.{messageFits}
-use Rattle.message.specs.Readings.{readingPlace, readingAt, readingsFit}
+use Rattle.message.specs.Readings.{readingAt, readingsFit}
 use Rattle.message.proofs.Ranges.{readings-length, readings-place, readings-made}
 use Rattle.plan.specs.declared.brief.Phase.{Phase}
 use Rattle.plan.specs.declared.brief.Phase.the-variants.{Idle, Collecting, Pending, Voting}

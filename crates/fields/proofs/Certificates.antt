@@ -7,10 +7,11 @@ use native.Mathlib.Omega.{arith}
 use lib.ListN.{length, getD, drop}
 use lib.Dec.{leb}
 use borrow.Author.Tests.{ne-eqb, leb-true, not-true, not-false}
+use Rattle.units.specs.Bytes.{visible}
 use Rattle.units.proofs.Every.{and-left, and-right}
 use Rattle.fields.specs.Digits.{pick}
 use Rattle.fields.specs.Text.{lacks, ends, fieldAt}
-use Rattle.fields.specs.Certificate.{visible, allVisible, isCertificate, certificateAt}
+use Rattle.fields.specs.Certificate.{allVisible, isCertificate, certificateAt}
 use Rattle.fields.specs.declared.certificate.Certificate.the-variants.{At, Form}
 use Rattle.fields.proofs.Cases.{by-test, absurd-by}
 use Rattle.fields.proofs.Texts.{first-none, field-next}

@@ -68,6 +68,10 @@ module _ (l : List ℕ) (at : ℕ) (s t : List ℕ) (h : at + length (s ++ t) �
       let a = length-append s t in
       rw (put-room l at s room-first, end-room l at s room-first, end-room l at (s ++ t) h, end-room (sets l at s) (at + length s) t room-then) (omega arith)
 
+  -- as two calls promise it
+  pub put-then : (d x : List ℕ) (e r : ℕ) → (e ≡ putEnd l at s) × (d ≡ put l at s) → (r ≡ putEnd d e t) × (x ≡ put d e t) → (r ≡ putEnd l at (s ++ t)) × (x ≡ put l at (s ++ t))
+  put-then d x e r p q = rw (← put-put, ← end-end, ← p .0, ← p .1) q
+
 -- what is written for a number
 pub written-is : (sp : Spelling) (n : ℕ) → n ≤ limit sp → written sp n ≡ spelled sp n
 unfolding written

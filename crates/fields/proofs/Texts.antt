@@ -130,14 +130,14 @@ first-last (c ∷ cs) = by-test (eqb c 9) (λ t. rw t (λ h. absurd (omega arith
 
 module _ (text : List ℕ) (at : ℕ) where
   -- where a tab stands before the next place, the fields go on there
-  cursor-tab : nextAt text at ≤ length text → fieldsOf (drop at text) ≡ fieldAt text at ∷ fieldsOf (drop (nextAt text at) text)
+  pub cursor-tab : nextAt text at ≤ length text → fieldsOf (drop at text) ≡ fieldAt text at ∷ fieldsOf (drop (nextAt text at) text)
   cursor-tab h =
       let l = length-drop at text in
       let q : nextAt text at ≡ at + suc (length (fieldAt text at)) = omega arith in
       rw (q, ← drop-drop (suc (length (fieldAt text at))) at text) (ap {B = List (List ℕ)} (λ (fs : List (List ℕ)). fieldAt text at ∷ fs) (first-next (drop at text) (omega arith)))
 
   -- where it is past the end, the field was the last
-  cursor-last : length text < nextAt text at → fieldsOf (drop at text) ≡ fieldAt text at ∷ []
+  pub cursor-last : length text < nextAt text at → fieldsOf (drop at text) ≡ fieldAt text at ∷ []
   cursor-last h = let l = length-drop at text in ap {B = List (List ℕ)} (λ (fs : List (List ℕ)). fieldAt text at ∷ fs) (first-last (drop at text) (omega arith))
 
   module _ (k : ℕ) (inv : fieldsOf (drop at text) ≡ drop k (fieldsOf text)) where

@@ -4,16 +4,12 @@ use mathlib.Core.List.{List, [], _∷_}
 use mathlib.Core.Bool.{Bool, true, _&&_}
 use lib.ListN.{length}
 use lib.Dec.{leb}
+use Rattle.units.specs.Bytes.{visible}
+use Rattle.units.specs.Limits.{certificateTop}
 use Rattle.fields.specs.Digits.{pick}
 use Rattle.fields.specs.Text.{fieldAt}
 use Rattle.fields.specs.declared.certificate.Certificate.{Certificate}
 use Rattle.fields.specs.declared.certificate.Certificate.the-variants.{At, Form}
-
-abbrev pub certificateTop : ℕ
-certificateTop = 16
-
-abbrev pub visible : ℕ → Bool
-visible c = leb 0x21 c && leb c 0x7E
 
 unfoldable pub allVisible : List ℕ → Bool
 allVisible [] = true

@@ -1,19 +1,13 @@
 // Certificates: 1 to 16 bytes 0x21..0x7E.
 ghost use mathlib.Core.Path.{_≡_};
-ghost use Rattle.fields.specs.Certificate.{certificateAt, visible};
+ghost use Rattle.fields.specs.Certificate.{certificateAt};
 use crate::text::TAB;
-
-pub const CERTIFICATE: usize = 16;
+use units::bytes::is_visible;
+use units::limits::CERTIFICATE;
 
 pub enum Certificate {
     At { end: usize },
     Form,
-}
-
-pub fn is_visible(b: u8) -> bool
-    ensures { λ r. ⌜ r ≡ visible b ⌝ }
-{
-    (0x21 <= b) & (b <= 0x7e)
 }
 
 // Where the certificate at a place ends.

@@ -20,6 +20,7 @@ use Rattle.units.specs.Limits.{rawTop}
 use Rattle.units.specs.Mask.{maskEnd, maskFits}
 use Rattle.units.specs.Refusal.{verdictNumber}
 use Rattle.units.specs.Settings.{numbersFit}
+use Rattle.units.specs.Reading.{readingPlace}
 use Rattle.units.proofs.Every.{and-left, and-right, and-both, and-three, every-at, every-all}
 use Rattle.units.proofs.InRange.{numbers-range, numbers-made}
 use Rattle.units.proofs.Masks.{mask-end-is}
@@ -28,7 +29,7 @@ use Rattle.floats.specs.Ranges.{stateFits}
 use Rattle.floats.proofs.Places.{state-exact, targets-exact}
 use Rattle.filter.specs.declared.checked.Checked.{Checked}
 use Rattle.filter.specs.Compute.{computed}
-use Rattle.filter.specs.Checked.{readingPlace, readingAt, readingsFit, inputsFit, answer, checked}
+use Rattle.filter.specs.Checked.{readingAt, readingsFit, inputsFit, answer, checked}
 use Rattle.filter.specs.InRange.{InputsInRange, ComputedInRange}
 use Rattle.filter.proofs.Laws.{state-range, new-total-range, given-range}
 

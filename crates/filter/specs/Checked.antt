@@ -2,7 +2,7 @@
 use Prim.Native.Nat.{ℕ}
 use mathlib.Core.Bool.{Bool, true, false, _&&_}
 use mathlib.Core.List.{List}
-use lib.Dec.{leb, ltb, eqb}
+use lib.Dec.{ltb}
 use lib.ListN.{getD, replicate}
 use Rattle.units.specs.declared.labels.RoundLabel.{RoundLabel}
 use Rattle.units.specs.declared.labels.StateLabel.{StateLabel}
@@ -11,8 +11,9 @@ use Rattle.units.specs.declared.settings.Numbers.{Numbers}
 use Rattle.units.specs.declared.refusal.Refusal.the-variants.{Range}
 use Rattle.units.specs.declared.refusal.Verdict.the-variants.{Taken, Refused}
 use Rattle.units.specs.Labels.{before}
-use Rattle.units.specs.Limits.{rawTop, runsTop}
+use Rattle.units.specs.Limits.{runsTop}
 use Rattle.units.specs.Mask.{maskFits}
+use Rattle.units.specs.Reading.{readingPlace}
 use Rattle.units.specs.Every.{every}
 use Rattle.units.specs.Settings.{numbersFit}
 use Rattle.floats.specs.Bits.{nought}
@@ -21,10 +22,6 @@ use Rattle.filter.specs.declared.checked.Checked.{Checked}
 use Rattle.filter.specs.Compute.{computed}
 
 -- a run has a reading in range, any other place has 0
-abbrev pub readingPlace : Bool → ℕ → Bool
-readingPlace true raw = leb raw rawTop
-readingPlace false raw = eqb raw 0
-
 abbrev pub readingAt : ℕ → List ℕ → ℕ → Bool
 readingAt m readings i = readingPlace (ltb i m) (getD readings i 0)
 

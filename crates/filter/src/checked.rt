@@ -1,6 +1,6 @@
 // Computing on values that may be out of range: those get 6, and change nothing.
 ghost use mathlib.Core.Path.{_≡_};
-ghost use Rattle.filter.specs.Checked.{checked, inputsFit, readingPlace, readingsFit};
+ghost use Rattle.filter.specs.Checked.{checked, inputsFit, readingsFit};
 use crate::compute::Computed;
 use crate::compute::compute;
 use floats::ranges::state_in_range;
@@ -10,21 +10,14 @@ use units::Refusal;
 use units::RoundLabel;
 use units::StateLabel;
 use units::Verdict;
-use units::limits::RAW_TOP;
 use units::limits::RUNS;
 use units::mask::mask_in_range;
+use units::reading::reading_place;
 
 // What computing says of itself, and what it gives.
 pub struct Checked {
     pub verdict: Verdict,
     pub computed: Computed,
-}
-
-// Whether a place holds a reading in range, or 0 where it is no run.
-fn reading_place(run: bool, raw: u32) -> bool
-    ensures { λ r. ⌜ r ≡ readingPlace run raw ⌝ }
-{
-    if run { raw <= RAW_TOP } else { raw == 0 }
 }
 
 pub(crate) fn readings_in_range(m: usize, readings: [u32; 16]) -> bool

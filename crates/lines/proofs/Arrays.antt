@@ -17,12 +17,13 @@ use Rattle.units.specs.Every.{every}
 use Rattle.units.specs.Limits.{rawTop, xTop, varianceTop, targetTop, labelTop}
 use Rattle.units.specs.Mask.{inMask}
 use Rattle.units.specs.Pick.{pick}
+use Rattle.units.specs.Reading.{readingPlace}
 use Rattle.units.proofs.Every.{every-all}
 use Rattle.floats.specs.Bits.{bitsOf, xBits, varianceBits, targetBits}
 use Rattle.floats.specs.Ranges.{noEstimate, stateFits, targetsFit}
 use Rattle.floats.proofs.Limits.{x-limit, variance-limit, target-limit, limit-back, bits-range, float-back}
 use Rattle.floats.proofs.Places.{estimate-x, estimate-variance, estimate-made, state-length, state-run, state-blank, state-made, targets-length, targets-run, targets-blank, targets-made}
-use Rattle.message.specs.Readings.{readingPlace, readingAt, readingsFit}
+use Rattle.message.specs.Readings.{readingAt, readingsFit}
 use Rattle.message.proofs.Ranges.{readings-length, readings-place}
 use Rattle.fields.proofs.Cases.{by-test, by-lt}
 use Rattle.lines.specs.Lists.{column, joined}

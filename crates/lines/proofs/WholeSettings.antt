@@ -20,7 +20,8 @@ use Rattle.message.specs.declared.certificate.Certificate.{Certificate}
 use Rattle.message.specs.declared.settings.Settings.{Settings}
 use Rattle.message.specs.Settings.{bytePlace, byteAt, certificateFits, noCertificate, certificateAt, settingsFit}
 use Rattle.fields.specs.declared.spelling.Spelling.the-variants.{Decimal, Factor}
-use Rattle.fields.specs.Certificate.{visible, allVisible, isCertificate}
+use Rattle.units.specs.Bytes.{visible}
+use Rattle.fields.specs.Certificate.{allVisible, isCertificate}
 use Rattle.fields.proofs.Cases.{by-test, by-lt, absurd-by}
 use Rattle.fields.proofs.Spellings.{fits-range, range-fits}
 use Rattle.lines.specs.declared.kind.Kind.the-variants.{Sizes, Filter}

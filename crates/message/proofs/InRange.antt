@@ -17,6 +17,7 @@ use Rattle.units.specs.InRange.{GroupInRange, NumbersInRange}
 use Rattle.units.specs.Labels.{roundFits, stateLabelFits, floorFits}
 use Rattle.units.specs.Limits.{labelTop, rawTop, runsTop}
 use Rattle.units.specs.Mask.{inMask, maskEnd, maskFits}
+use Rattle.units.specs.Reading.{readingPlace}
 use Rattle.units.specs.Settings.{groupFits, numbersFit}
 use Rattle.units.specs.Within.{within}
 use Rattle.units.proofs.Every.{and-left, and-right, and-both, and-three, every-at, every-all}
@@ -39,7 +40,7 @@ use Rattle.message.specs.Head.{carry, carried, headFits}
 use Rattle.message.specs.InRange.{Label, Mask, HeadInRange, ReadingsInRange, MessageInRange, CertificateInRange, NoCertificate, SettingsInRange}
 use Rattle.message.specs.InRange.HeadInRange.{reading, query, reply, advert, update, vote, setpoints, due, collecting-ends, voting-ends, floor, start, refused}
 use Rattle.message.specs.Message.{messageFits}
-use Rattle.message.specs.Readings.{readingPlace, readingAt, readingsFit}
+use Rattle.message.specs.Readings.{readingsFit}
 use Rattle.message.specs.Settings.{bytePlace, byteAt, lenFits, certificateFits, certificateAt, noCertificate, sixteen, settingsFit}
 use Rattle.message.specs.View.{onSome, asReply, asUpdate, asIssue}
 use Rattle.message.proofs.Ranges.{readings-length, readings-place, readings-made}
@@ -119,8 +120,8 @@ module _ (mask : ℕ) (readings : List ℕ) where
   place-made r i l true e = le-leb (getD readings i 0) rawTop (r .reading i l e)
   place-made r i l false e = eq-eqb (getD readings i 0) 0 (r .none i l e)
 
-  pub readings-exact : (readingsFit mask readings ≡ true → ReadingsInRange mask readings) × (ReadingsInRange mask readings → readingsFit mask readings ≡ true)
-  readings-exact = (readings-range, λ r. readings-made mask readings (r .sixteen) (λ i l. place-made r i l (inMask mask i) refl))
+  pub raws-exact : (readingsFit mask readings ≡ true → ReadingsInRange mask readings) × (ReadingsInRange mask readings → readingsFit mask readings ≡ true)
+  raws-exact = (readings-range, λ r. readings-made mask readings (r .sixteen) (λ i l. place-made r i l (inMask mask i) refl))
 
 -- ---- the arrays beside the head
 module _ (s : Group) where
@@ -170,9 +171,9 @@ module _ (s : Group) where
         record {
           group = g;
           head = head-exact s (g .runs .1) (a .head) .0 (k .1);
-          reply = λ sender mask label e. readings-exact mask (a .readings) .0 (at-head _ e .0);
+          reply = λ sender mask label e. raws-exact mask (a .readings) .0 (at-head _ e .0);
           no-reply = λ n. by-kind (λ x. a .head ≡ x → ReadingsInRange 0 (a .readings)) (λ v e. absurd (n _ _ _ e))
-              (λ x n e. readings-exact 0 (a .readings) .0 (subst (λ (m : ℕ). readingsFit m (a .readings) ≡ true) (no-readings (asReply x) (asUpdate x) (asIssue x) n) (at-head x e .0)))
+              (λ x n e. raws-exact 0 (a .readings) .0 (subst (λ (m : ℕ). readingsFit m (a .readings) ≡ true) (no-readings (asReply x) (asUpdate x) (asIssue x) n) (at-head x e .0)))
               (reply-seen (a .head)) refl;
           update = λ sender state e. state-exact (s .m) (a .estimates) .0 (at-head _ e .1);
           no-update = λ n. by-kind (λ x. a .head ≡ x → StateInRange 0 (a .estimates)) (λ v e. absurd (n _ _ e))
@@ -188,8 +189,8 @@ module _ (s : Group) where
     unfolding messageFits carried
     message-made r =
         and-both (and-both (and-both (and-both (group-exact s .1 (r .group)) (head-exact s (r .group .runs .1) (a .head) .1 (r .head)))
-        (by-kind (λ x. a .head ≡ x → readingsFit (has x .readings) (a .readings) ≡ true) (λ v e. readings-exact (v .2) (a .readings) .1 (r .reply _ _ _ e))
-        (λ x n e. subst (λ (m : ℕ). readingsFit m (a .readings) ≡ true) (sym (no-readings (asReply x) (asUpdate x) (asIssue x) n)) (readings-exact 0 (a .readings) .1 (r .no-reply (λ _ _ _ q. unseen asReply n e (ap asReply q)))))
+        (by-kind (λ x. a .head ≡ x → readingsFit (has x .readings) (a .readings) ≡ true) (λ v e. raws-exact (v .2) (a .readings) .1 (r .reply _ _ _ e))
+        (λ x n e. subst (λ (m : ℕ). readingsFit m (a .readings) ≡ true) (sym (no-readings (asReply x) (asUpdate x) (asIssue x) n)) (raws-exact 0 (a .readings) .1 (r .no-reply (λ _ _ _ q. unseen asReply n e (ap asReply q)))))
         (reply-seen (a .head)) refl))
         (by-kind (λ x. a .head ≡ x → stateFits (has x .estimates) (a .estimates) ≡ true) (λ v e. state-exact (s .m) (a .estimates) .1 (r .update _ _ e))
         (λ x n e. subst (λ (m : ℕ). stateFits m (a .estimates) ≡ true) (sym (no-estimates (asReply x) (asUpdate x) (asIssue x) n)) (state-exact 0 (a .estimates) .1 (r .no-update (λ _ _ q. unseen asUpdate n e (ap asUpdate q)))))

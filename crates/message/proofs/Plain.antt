@@ -6,6 +6,7 @@ use lib.Ieee.{nan}
 use lib.ListN.{replicate, getD-replicate}
 use Rattle.units.specs.declared.settings.Group.{Group}
 use Rattle.units.specs.Limits.{runsTop}
+use Rattle.units.specs.Reading.{readingPlace}
 use Rattle.units.specs.Settings.{groupFits}
 use Rattle.units.proofs.Every.{and-true}
 use Rattle.units.proofs.Masks.{no-run}
@@ -16,7 +17,7 @@ use Rattle.message.specs.declared.head.Carried.{Carried}
 use Rattle.message.specs.declared.head.Head.{Head}
 use Rattle.message.specs.Head.{carry, carried, headFits, isPlain}
 use Rattle.message.specs.Message.{plain, messageFits}
-use Rattle.message.specs.Readings.{readingPlace, readingsFit}
+use Rattle.message.specs.Readings.{readingsFit}
 use Rattle.message.proofs.Ranges.{readings-made}
 use Rattle.message.proofs.Views.{plain-seen}
 

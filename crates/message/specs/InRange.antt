@@ -1,5 +1,5 @@
 -- Clause by clause, in document 01's words: a message and the settings handed in as values with nothing out of range. What `headFits`, `readingsFit`,
--- `messageFits`, `certificateFits` and `settingsFit` are to be; that they are is `head-exact`, `readings-exact`, .. of proofs/InRange.antt.
+-- `messageFits`, `certificateFits` and `settingsFit` are to be; that they are is `head-exact`, `raws-exact`, .. of proofs/InRange.antt.
 use Prim.Native.Nat.{ℕ, _^_, _≤_, _<_}
 use mathlib.Core.Path.{_≡_}
 use mathlib.Core.Bool.{true, false}

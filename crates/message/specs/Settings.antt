@@ -4,6 +4,7 @@ use mathlib.Core.Bool.{Bool, true, false, _&&_}
 use mathlib.Core.List.{[]}
 use lib.Dec.{ltb, eqb}
 use lib.ListN.{length, getD}
+use Rattle.units.specs.Bytes.{visible}
 use Rattle.units.specs.Every.{every}
 use Rattle.units.specs.Limits.{certificateTop, runsTop}
 use Rattle.units.specs.Settings.{numbersFit}
@@ -12,7 +13,7 @@ use Rattle.message.specs.declared.certificate.Certificate.{Certificate}
 use Rattle.message.specs.declared.settings.Settings.{Settings}
 
 abbrev pub bytePlace : Bool → ℕ → Bool
-bytePlace true b = within 33 126 b
+bytePlace true b = visible b
 bytePlace false b = eqb b 0
 
 abbrev pub byteAt : Certificate → ℕ → Bool

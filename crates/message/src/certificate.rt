@@ -1,6 +1,7 @@
 // A meter's certificate: 1 to 16 bytes that can be seen.
 ghost use mathlib.Core.Path.{_≡_};
 ghost use Rattle.message.specs.Settings.{bytePlace, certificateFits, lenFits};
+use units::bytes::is_visible;
 use units::limits::CERTIFICATE;
 
 // The first `len` bytes count, the others are 0. A place that is no run has len 0.
@@ -22,7 +23,7 @@ fn len_in_range(run: bool, len: usize) -> bool
 fn byte_in_range(here: bool, b: u8) -> bool
     ensures { λ r. ⌜ r ≡ bytePlace here b ⌝ }
 {
-    if here { (33 <= b) & (b <= 126) } else { b == 0 }
+    if here { is_visible(b) } else { b == 0 }
 }
 
 impl Certificate {

@@ -8,9 +8,13 @@ use mathlib.Core.Bool.{Bool, true, false, _&&_}
 use mathlib.Core.Logic.{by-cases}
 use Rattle.units.specs.Every.{every}
 
+-- what cannot be, where `cc` gives 0 ≡ 1
+pub absurd-by : {A : Type 0} → _≡_ {A = ℕ} 0 1 → A
+absurd-by z = absurd (omega arith)
+
 -- a test cannot hold and fail
 pub no-way : {A : Type 0} → false ≡ true → A
-no-way e = let z : _≡_ {A = ℕ} 0 1 = cc in absurd (omega arith)
+no-way e = absurd-by (cc)
 
 -- what a loop finds that began with a, has passed i places and passes one more
 pub and-true : (a : Bool) → a ≡ (a && true)

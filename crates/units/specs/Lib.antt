@@ -4,6 +4,8 @@ pub mod Within
 pub mod Labels
 pub mod Refusal
 pub mod Mask
+pub mod Bytes
+pub mod Reading
 pub mod Every
 pub mod Pick
 pub mod Tab

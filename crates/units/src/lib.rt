@@ -1,8 +1,10 @@
 // The ground that every layer stands on: labels, refusals, limits, masks, estimates and the numbers of the settings.
+pub mod bytes;
 pub mod estimate;
 pub mod labels;
 pub mod limits;
 pub mod mask;
+pub mod reading;
 pub mod refusal;
 pub mod settings;
 

@@ -8,7 +8,8 @@ use Prim.Native.Nat.{_-_, _≤_}
 use mathlib.Core.Path.{_≡_, refl, ap, _∙_}
 use Rattle.units.specs.Every.{every}
 use Rattle.units.proofs.Every.{every-more}
-use Rattle.message.specs.Readings.{readingPlace, readingAt, readingsFit}
+use Rattle.units.specs.Reading.{readingPlace}
+use Rattle.message.specs.Readings.{readingAt, readingsFit}
 use Rattle.message.proofs.readings.readings_in_range.Statement.{statement}
 use Rattle.message.proofs.readings.readings_in_range.Tie as tie
 
@@ -25,14 +26,14 @@ loop-holds c = (omega arith, refl)
 has-requires : tie.Need-has-requires Inv-loop μ-loop
 has-requires c κs = search needs
 
-mul-place-in-range : tie.Need-mul-place-in-range Inv-loop μ-loop
-mul-place-in-range c = search needs
+mul-reading-place : tie.Need-mul-reading-place Inv-loop μ-loop
+mul-reading-place c = search needs
 
-array-read-place-in-range : tie.Need-array-read-place-in-range Inv-loop μ-loop
-array-read-place-in-range c = search needs
+array-read-reading-place : tie.Need-array-read-reading-place Inv-loop μ-loop
+array-read-reading-place c = search needs
 
-place-in-range-requires : tie.Need-place-in-range-requires Inv-loop μ-loop
-place-in-range-requires c κs = search needs
+reading-place-requires : tie.Need-reading-place-requires Inv-loop μ-loop
+reading-place-requires c κs = search needs
 
 add-i : tie.Need-add-i Inv-loop μ-loop
 add-i c = omega arith
@@ -43,7 +44,7 @@ loop-less c = omega arith
 loop-again : tie.Need-loop-again Inv-loop μ-loop
 loop-again c =
     let a = c .before .before .before .before .args in
-    (omega arith, every-more (readingAt (a .mask) (a .t2)) _ _ _ (c .before .before .before .loop .inv .1) (c .place-in-range .ensures ∙ ap (λ (t : Bool). readingPlace t (getD (a .t2) (c .before .before .before .loop .i) 0)) (c .before .has .ensures)))
+    (omega arith, every-more (readingAt (a .mask) (a .t2)) _ _ _ (c .before .before .before .loop .inv .1) (c .reading-place .ensures ∙ ap (λ (t : Bool). readingPlace t (getD (a .t2) (c .before .before .before .loop .i) 0)) (c .before .has .ensures)))
 
 returns : tie.Need-returns Inv-loop μ-loop
 unfolding readingsFit
@@ -57,9 +58,9 @@ readings-in-range-spec =
     μ-loop
     loop-holds
     has-requires
-    mul-place-in-range
-    array-read-place-in-range
-    place-in-range-requires
+    mul-reading-place
+    array-read-reading-place
+    reading-place-requires
     add-i
     loop-less
     loop-again
