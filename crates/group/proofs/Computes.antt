@@ -18,6 +18,8 @@ use Rattle.filter.specs.Compute.{newState, setPoints}
 use Rattle.message.specs.Head.{headFits, carried}
 use Rattle.message.specs.Message.{plain, messageFits}
 use Rattle.message.specs.Readings.{readingsFit}
+use Rattle.lines.specs.Table.{letterOf}
+use Rattle.lines.specs.Values.{kindIs}
 use Rattle.plan.specs.Plan.{afterwards}
 use Rattle.plan.specs.Readings.{collected, sameRound, planReading, answered, inQuery, planQuery, inReply, planReply}
 use Rattle.plan.specs.States.{planAdvert, overtaken, adopted, inUpdate, planUpdate}
@@ -31,7 +33,7 @@ use Rattle.controller.specs.Sent.{sentMessage}
 use Rattle.controller.specs.Step.{judgedIn, judgedPlan, planned, inputsFit, stepped}
 use Rattle.controller_laws.specs.Session.{estimateBits, line}
 use Rattle.group.specs.World.{put}
-use Rattle.group.specs.Scripts.{played, exchanged, marked, highest, fairly, fair, allFair, writable, allWritable, refusals, inOrder}
+use Rattle.group.specs.Scripts.{played, marked, highest, fairly, fair, allFair, writable, allWritable, refusals, inOrder}
 use Rattle.group.specs.Examples.{steady}
 
 -- binary64 and its bits
@@ -86,7 +88,7 @@ step-computes = tt
 
 -- scripts and their test
 unfoldable pub script-computes : Unit {0}
-unfolding put played exchanged marked highest fairly fair allFair writable allWritable refusals inOrder steady estimateBits line
+unfolding put played marked highest fairly letterOf kindIs fair allFair writable allWritable refusals inOrder steady estimateBits line
 script-computes = tt
 
 unfoldable pub run-computes : Unit {0}
