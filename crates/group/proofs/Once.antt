@@ -78,7 +78,7 @@ module _ (s : Numbers) (meters : Meters) where
       }
 
   -- a controller that may stand at the number i
-  pub record May (w : World) (i : ℕ) (n : Controller) : Type 0 where
+  record May (w : World) (i : ℕ) (n : Controller) : Type 0 where
     pub own : n .own ≡ i
     pub fit : controllerFits s n ≡ true
     pub bound : (label : RoundLabel) (d : Digest) → Released (w .sent) i label d → label .0 ≤ n .label .0

@@ -35,7 +35,7 @@ use Rattle.group.proofs.Stations.{Past, Fine, FineIn, led-past, follows
 use Rattle.group.proofs.Texts.{told-whole}
 
 -- ---- lines put ahead of others
-pub puts-old : (ls old : List (List ℕ)) (x : List ℕ) → List·Memᴰ x old → List·Memᴰ x (puts ls old)
+puts-old : (ls old : List (List ℕ)) (x : List ℕ) → List·Memᴰ x old → List·Memᴰ x (puts ls old)
 unfolding puts
 puts-old [] old x m = m
 puts-old (l ∷ ls) old x m = puts-old ls (l ∷ old) x (List·Memᴰ·tail m)
@@ -86,7 +86,7 @@ module _ (s : Numbers) (meters : Meters) where
   stands-after w ls g (crash i) k = put-goes (w .up) ls i none none g tt
   stands-after w ls g (hand i (boot lines)) k = put-goes (w .up) ls i (some (led coreStart lines)) (some (born lines)) g (goes-born lines k)
 
-  pub all-stand : {w : Stations} (run : OnwardStations s meters empty w) (i : ℕ) → GoesIn s (w .up i) (lives run i)
+  all-stand : {w : Stations} (run : OnwardStations s meters empty w) (i : ℕ) → GoesIn s (w .up i) (lives run i)
   unfolding lives
   all-stand here i = tt
   all-stand (next {v} on e k) i = stands-after v (lives on) (λ j. all-stand on j) e k i
