@@ -18,7 +18,6 @@ use Rattle.filter.specs.Compute.{newState, setPoints}
 use Rattle.message.specs.Head.{headFits, carried}
 use Rattle.message.specs.Message.{plain, messageFits}
 use Rattle.message.specs.Readings.{readingsFit}
-use Rattle.lines.specs.Table.{letterOf}
 use Rattle.lines.specs.Values.{kindIs}
 use Rattle.plan.specs.Plan.{afterwards}
 use Rattle.plan.specs.Readings.{collected, sameRound, planReading, answered, inQuery, planQuery, inReply, planReply}
@@ -122,7 +121,7 @@ script-computes = tt
 
 -- scripts as lines
 unfoldable pub lines-computes : Unit {0}
-unfolding writable allWritable letterOf kindIs estimateBits line
+unfolding writable allWritable kindIs estimateBits line
 lines-computes = tt
 
 unfoldable pub judging-computes : Unit {0}

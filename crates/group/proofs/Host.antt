@@ -2,7 +2,7 @@
 use Prim.Native.Nat.{ℕ, _≤_}
 use native.Mathlib.Omega.{arith}
 use mathlib.Core.Path.{_≡_, refl, sym, ap, subst}
-use mathlib.Core.List.{List·Memᴰ, List·Memᴰ·tail, List·Memᴰ·cases-cons, List·Memᴰ·not-nil, List·Memᴰ·append-cases}
+use mathlib.Core.List.{[], _∷_, List·Memᴰ, List·Memᴰ·tail, List·Memᴰ·cases-cons, List·Memᴰ·not-nil, List·Memᴰ·append-cases}
 use mathlib.Core.Logic.{inl, inr, ⊎-elim}
 use mathlib.Core.Option.{Option, none, some}
 use Rattle.units.specs.declared.labels.RoundLabel.{RoundLabel}
@@ -25,8 +25,10 @@ Stored w = (x : Mark) → List·Memᴰ x (w .confirmed) → List·Memᴰ x (w .s
 -- F alone confirms
 by-floor : (i : ℕ) (x : Mark) (h : Head) → List·Memᴰ x (confirms i h) → (label : RoundLabel) × (h ≡ Floor label) × (x ≡ mark i label)
 by-floor i x h =
-    by-kind (λ (k : Head). List·Memᴰ x (confirms i k) → (label : RoundLabel) × (k ≡ Floor label) × (x ≡ mark i label))
-    (λ label m. elim (List·Memᴰ·cases-cons m) [ inl e ↦ (label, refl, e) | inr n ↦ absurd (List·Memᴰ·not-nil n) ]) (λ k q m. absurd (List·Memᴰ·not-nil (rw q at m))) (floor-seen h)
+    by-kind (λ (k : Head). List·Memᴰ x (confirms i k) → (label : RoundLabel) × (k ≡ Floor label) × (x ≡ mark i label)) of (λ k q m. absurd (List·Memᴰ·not-nil (rw q at m))) (floor-seen h)
+  where
+    of : (label : RoundLabel) → List·Memᴰ x (mark i label ∷ []) → (l : RoundLabel) × (Floor label ≡ Floor l) × (x ≡ mark i l)
+    of label m = elim (List·Memᴰ·cases-cons m) [ inl e ↦ (label, refl, e) | inr n ↦ absurd (List·Memᴰ·not-nil n) ]
 
 module _ (s : Numbers) (meters : Meters) where
   stored-handed : (w : World) → Stored w → (i : ℕ) (a : Message) → Kept meters w i a → (u : Option Controller) → Stored (handed s w i a u)

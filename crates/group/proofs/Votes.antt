@@ -63,6 +63,7 @@ module _ (j : ℕ) (label : RoundLabel) where
     where
       hit : (sender : ℕ) (l : RoundLabel) (digest : Digest) → sender ≡ j → l ≡ label → digest ≡ d → Vote sender l digest ≡ Vote j label d
       hit sender l digest p q r = λ i. Vote (p i) (q i) (r i)
+
       of : (sender : ℕ) (l : RoundLabel) (digest : Digest) → voteIf j label found (Vote sender l digest) ≡ Cast d → (Vote sender l digest ≡ Vote j label d) ⊎ (found ≡ Cast d)
       of sender l digest =
           on-pick (λ (b : Ballot). b ≡ Cast d → (Vote sender l digest ≡ Vote j label d) ⊎ (found ≡ Cast d)) (eqb sender j && eqb (l .0) (label .0))
