@@ -7,9 +7,9 @@ use mathlib.Core.Path.{_≡_, refl, sym, ap, subst, _∙_}
 use mathlib.Core.Bool.{true, false, _&&_}
 use mathlib.Core.List.{List, [], _∷_, map, List·Memᴰ, List·Memᴰ·head, List·Memᴰ·tail, List·Memᴰ·cases-cons, List·Memᴰ·not-nil}
 use mathlib.Core.Logic.{_⊎_, inl, inr, ⊎-elim, by-cases}
-use lib.Dec.{eqb, leb, ltb}
+use lib.Dec.{eqb, ltb}
 use lib.ListN.{length, getD, take, List·getD-eq-default}
-use borrow.Author.Tests.{eqb-true, eq-eqb, leb-true, ltb-true}
+use borrow.Author.Tests.{eqb-true, eq-eqb, ltb-true}
 use Rattle.units.specs.declared.labels.RoundLabel.{RoundLabel}
 use Rattle.units.specs.declared.settings.Group.{Group}
 use Rattle.units.specs.declared.settings.Numbers.{Numbers}
