@@ -18,6 +18,7 @@ use Rattle.filter.specs.Compute.{newState, setPoints}
 use Rattle.message.specs.Head.{headFits, carried}
 use Rattle.message.specs.Message.{plain, messageFits}
 use Rattle.message.specs.Readings.{readingsFit}
+use Rattle.lines.specs.Values.{kindIs}
 use Rattle.plan.specs.Plan.{afterwards}
 use Rattle.plan.specs.Readings.{collected, sameRound, planReading, answered, inQuery, planQuery, inReply, planReply}
 use Rattle.plan.specs.States.{planAdvert, overtaken, adopted, inUpdate, planUpdate}
@@ -31,33 +32,47 @@ use Rattle.controller.specs.Sent.{sentMessage}
 use Rattle.controller.specs.Step.{judgedIn, judgedPlan, planned, inputsFit, stepped}
 use Rattle.controller_laws.specs.Session.{estimateBits, line}
 use Rattle.group.specs.World.{put}
-use Rattle.group.specs.Scripts.{played, exchanged, marked, highest, fairly, fair, allFair, writable, allWritable, refusals, inOrder}
+use Rattle.group.specs.Scripts.{played, marked, highest, fairly, fair, allFair, writable, allWritable, refusals, inOrder}
 use Rattle.group.specs.Examples.{steady}
 
--- binary64 and its bits
+-- binary64
 unfoldable pub float-computes : Unit {0}
-unfolding lt le eq add sub mul div ofInt ofBits toBits fits bitsOf floatOf sameFloat
+unfolding lt le eq add sub mul div ofInt ofBits fits
 float-computes = tt
 
--- settings, ranges of floats, masks
-unfoldable pub unit-computes : Unit {0}
-unfolding ones every pick groupFits runsFit numbersFit estimateFits sameEstimate stateFits targetsFit sameState
-unit-computes = tt
+-- floats in range, and their bits
+unfoldable pub bits-computes : Unit {0}
+unfolding toBits bitsOf floatOf sameFloat estimateFits sameEstimate stateFits targetsFit sameState
+bits-computes = tt
 
--- digests and votes in range
-unfoldable pub digest-computes : Unit {0}
+-- the settings and masks
+unfoldable pub units-computes : Unit {0}
+unfolding ones every pick groupFits runsFit numbersFit
+units-computes = tt
+
+-- digests and votes
+unfoldable pub votes-computes : Unit {0}
 unfolding legal same rank unrank full least seatFits seatsFit votesFit Ballots.total
-digest-computes = tt
+votes-computes = tt
 
 -- the decision and the winner
 unfoldable pub judge-computes : Unit {0}
-unfolding tallyOf strengthOf largest otherThan outsider missingOf heldOff rivalOf settledAt settled decision strongestAt winning
+unfolding tallyOf strengthOf largest otherThan outsider missingOf heldOff rivalOf
 judge-computes = tt
 
--- 'Computing'
+unfoldable pub decision-computes : Unit {0}
+unfolding settledAt settled decision strongestAt winning
+decision-computes = tt
+
+-- 'Computing': a run
 unfoldable pub filter-computes : Unit {0}
-unfolding atMost limited grown measured gain moved shrunk outcome tab place runsAfter newState
+unfolding atMost limited grown measured gain moved shrunk outcome
 filter-computes = tt
+
+-- all runs
+unfoldable pub state-computes : Unit {0}
+unfolding tab place runsAfter newState
+state-computes = tt
 
 -- total and targets
 unfoldable pub share-computes : Unit {0}
@@ -69,26 +84,59 @@ unfoldable pub message-computes : Unit {0}
 unfolding headFits carried plain messageFits readingsFit
 message-computes = tt
 
--- what a message leads to
-unfoldable pub plan-computes : Unit {0}
-unfolding afterwards collected sameRound planReading answered inQuery planQuery inReply planReply planAdvert overtaken adopted inUpdate planUpdate
-plan-computes = tt
+-- what M, Q and R lead to
+unfoldable pub readings-computes : Unit {0}
+unfolding afterwards collected sameRound planReading answered inQuery planQuery inReply planReply
+readings-computes = tt
 
--- timers, F and D
-unfoldable pub timer-computes : Unit {0}
-unfolding missingRuns asking inDue planDue inEnds planEnds inVotingEnds planVotingEnds inFloor planFloor inSeat inDigest planDigest possessed chosenPlan judged
-timer-computes = tt
+-- A and U
+unfoldable pub states-computes : Unit {0}
+unfolding planAdvert overtaken adopted inUpdate planUpdate
+states-computes = tt
 
--- a start and a step
+-- C, E and V
+unfoldable pub timers-computes : Unit {0}
+unfolding missingRuns asking inDue planDue inEnds planEnds inVotingEnds planVotingEnds
+timers-computes = tt
+
+-- F and D
+unfoldable pub digest-computes : Unit {0}
+unfolding inFloor planFloor inSeat inDigest planDigest possessed chosenPlan judged
+digest-computes = tt
+
+-- a start, and a state in range
+unfoldable pub start-computes : Unit {0}
+unfolding phaseFits controllerFits startEstimates startOf started
+start-computes = tt
+
+-- a step
 unfoldable pub step-computes : Unit {0}
-unfolding phaseFits controllerFits startEstimates startOf started runBit agrees merged applied sentMessage judgedIn judgedPlan planned inputsFit stepped
+unfolding runBit agrees merged applied sentMessage judgedIn judgedPlan planned inputsFit stepped
 step-computes = tt
 
--- scripts and their test
+-- scripts, and their test
 unfoldable pub script-computes : Unit {0}
-unfolding put played exchanged marked highest fairly fair allFair writable allWritable refusals inOrder steady estimateBits line
+unfolding put played marked highest fairly fair allFair refusals inOrder steady
 script-computes = tt
 
+-- scripts as lines
+unfoldable pub lines-computes : Unit {0}
+unfolding writable allWritable kindIs estimateBits line
+lines-computes = tt
+
+unfoldable pub judging-computes : Unit {0}
+unfolding float-computes bits-computes units-computes votes-computes judge-computes decision-computes
+judging-computes = tt
+
+unfoldable pub computing-computes : Unit {0}
+unfolding filter-computes state-computes share-computes message-computes
+computing-computes = tt
+
+unfoldable pub stepping-computes : Unit {0}
+unfolding readings-computes states-computes timers-computes digest-computes start-computes step-computes
+stepping-computes = tt
+
+-- all of them
 unfoldable pub run-computes : Unit {0}
-unfolding float-computes unit-computes digest-computes judge-computes filter-computes share-computes message-computes plan-computes timer-computes step-computes script-computes
+unfolding judging-computes computing-computes stepping-computes script-computes lines-computes
 run-computes = tt

@@ -5,6 +5,7 @@ use mathlib.Core.Path.{_≡_, refl, sym, ap, subst, _∙_}
 use mathlib.Core.Bool.{Bool, true, false, _&&_, _||_}
 use mathlib.Core.List.{List, [], _∷_, List·Memᴰ, List·Memᴰ·head, List·Memᴰ·tail, List·Memᴰ·cases-cons, List·Memᴰ·not-nil}
 use mathlib.Core.Logic.{_⊎_, inl, inr, ⊎-elim}
+use mathlib.Core.Option.{none}
 use lib.Dec.{eqb, leb, ltb}
 use lib.ListN.{length, getD}
 use borrow.Author.Tests.{eqb-true, leb-true, ltb-true}
@@ -12,13 +13,15 @@ use Rattle.units.specs.declared.labels.RoundLabel.{RoundLabel}
 use Rattle.units.specs.declared.settings.Numbers.{Numbers}
 use Rattle.units.proofs.Every.{and-left, and-right, no-way}
 use Rattle.message.specs.declared.head.Head.{Head}
-use Rattle.message.specs.declared.head.Head.the-variants.{Reading, Query, Reply, Advert, Update, Vote, Setpoints, Due, CollectingEnds, VotingEnds, Floor, Start, Refused}
+use Rattle.message.specs.declared.head.Head.the-variants.{Refused}
 use Rattle.message.specs.declared.value.Message.{Message}
 use Rattle.message.specs.Message.{plain}
+use Rattle.message.specs.View.{asReading, asFloor, isExchanged}
+use Rattle.message.proofs.Views.{reading-seen, floor-seen, start-seen, by-kind}
 use Rattle.controller_laws.proofs.Ways.{same-round}
-use Rattle.group.specs.World.{Mark, mark, World, after}
-use Rattle.group.specs.Premises.{Meters, Exchanged, Kept, On, Onward, next}
-use Rattle.group.specs.Scripts.{Act, give, pass, keep, fall, nth, eventOf, played, exchanged, marked, highest, fairly, fair, allFair}
+use Rattle.group.specs.World.{Mark, mark, On, next, World, after}
+use Rattle.group.specs.Premises.{Meters, Kept, Onward}
+use Rattle.group.specs.Scripts.{Act, give, pass, keep, fall, nth, eventOf, played, marked, highest, fairly, fair, allFair}
 
 -- ---- lists
 or-cases : (a b : Bool) → (a || b) ≡ true → (a ≡ true) ⊎ (b ≡ true)
@@ -35,7 +38,7 @@ same-mark p q = λ t. mark (p t) (q t)
 
 marked-there : (i : ℕ) (label : RoundLabel) (l : List Mark) → marked i label l ≡ true → List·Memᴰ (mark i label) l
 unfolding marked
-marked-there i label [] e = let z : _≡_ {A = ℕ} 0 1 = cc in absurd (omega arith)
+marked-there i label [] e = no-way e
 marked-there i label (x ∷ l) e =
     ⊎-elim
     (λ h. List·Memᴰ·head (sym (same-mark (eqb-true (x .who) i (and-left (eqb (x .who) i) _ h)) (same-round (x .floor) label (eqb-true _ _ (and-right (eqb (x .who) i) _ h))))))
@@ -58,65 +61,38 @@ highest-above i floor (x ∷ l) e label m =
 
 -- ---- the test is right
 module _ (meters : Meters) (w : World) (i : ℕ) where
-  -- a message that no clause is about
-  free : (a : Message) → ((label : RoundLabel) (run raw : ℕ) → a .head ≡ Reading label run raw → ⊥) → (Exchanged (a .head) → ⊥) → ((own : ℕ) (low : RoundLabel) → a .head ≡ Start own low → ⊥)
-      → ((label : RoundLabel) → a .head ≡ Floor label → ⊥) → Kept meters w i a
-  free a m x b f =
-      record {
-        one-reading = λ l n r q. absurd (m l n r q);
-        not-made-up = λ t. absurd (x t);
-        own-number = λ o l q. absurd (b o l q);
-        stored-first = λ l q. absurd (f l q);
-        highest-floor = λ o l q. absurd (b o l q);
-      }
+  -- what controllers send each other is not given
+  unfair : (h : Head) → isExchanged h ≡ true → fairly meters w i h ≡ true → ⊥
+  unfolding fairly
+  unfair h =
+      by-kind (λ (k : Head). isExchanged k ≡ true → fairly meters w i k ≡ true → ⊥) (λ v t. no-way t)
+      (λ k r. by-kind (λ (k : Head). asReading k ≡ none → isExchanged k ≡ true → fairly meters w i k ≡ true → ⊥) (λ v r t. no-way t)
+      (λ k f. by-kind (λ (k : Head). asFloor k ≡ none → asReading k ≡ none → isExchanged k ≡ true → fairly meters w i k ≡ true → ⊥) (λ v f r t. no-way t)
+      (λ k b f r t e. no-way (sym (rw (r, f, b, t)) ∙ e)) (start-seen k) f) (floor-seen k) r) (reading-seen h)
 
   given : (h : Head) → fairly meters w i h ≡ true → Kept meters w i (plain h)
   unfolding plain fairly
-  given (Reading label run raw) e =
+  given h e =
       record {
-        one-reading = λ l n r q. let h = eqb-true raw (meters label run) e in cc;
-        not-made-up = λ t. absurd t;
-        own-number = λ o l q. let z : _≡_ {A = ℕ} 0 1 = cc in absurd (omega arith);
-        stored-first = λ l q. let z : _≡_ {A = ℕ} 0 1 = cc in absurd (omega arith);
-        highest-floor = λ o l q. let z : _≡_ {A = ℕ} 0 1 = cc in absurd (omega arith);
+        one-reading = λ l n r q. eqb-true r (meters l n) (at q);
+        not-made-up = λ t. absurd (unfair h t e);
+        own-number = λ o l q. eqb-true o i (and-left (eqb o i) _ (at q));
+        stored-first = λ l q. marked-there i l (w .stored) (at q);
+        highest-floor = λ o l q label m. highest-above i l (w .confirmed) (and-right (eqb o i) _ (at q)) label m;
       }
-  given (Floor label) e =
-      record {
-        one-reading = λ l n r q. let z : _≡_ {A = ℕ} 0 1 = cc in absurd (omega arith);
-        not-made-up = λ t. absurd t;
-        own-number = λ o l q. let z : _≡_ {A = ℕ} 0 1 = cc in absurd (omega arith);
-        stored-first = λ l q. let z : label ≡ l = cc in subst (λ (k : RoundLabel). List·Memᴰ (mark i k) (w .stored)) z (marked-there i label (w .stored) e);
-        highest-floor = λ o l q. let z : _≡_ {A = ℕ} 0 1 = cc in absurd (omega arith);
-      }
-  given (Start own floor) e =
-      record {
-        one-reading = λ l n r q. let z : _≡_ {A = ℕ} 0 1 = cc in absurd (omega arith);
-        not-made-up = λ t. absurd t;
-        own-number = λ o l q. let h = eqb-true own i (and-left (eqb own i) _ e) in cc;
-        stored-first = λ l q. let z : _≡_ {A = ℕ} 0 1 = cc in absurd (omega arith);
-        highest-floor = λ o l q label m. let z : floor ≡ l = cc in omega (arith, ap (λ (k : RoundLabel). k .0) z, highest-above i floor (w .confirmed) (and-right (eqb own i) _ e) label m);
-      }
-  given (Due label) e = free (plain (Due label)) (λ l n r q. let z : _≡_ {A = ℕ} 0 1 = cc in omega arith) (λ t. t) (λ o l q. let z : _≡_ {A = ℕ} 0 1 = cc in omega arith) (λ l q. let z : _≡_ {A = ℕ} 0 1 = cc in omega arith)
-  given (CollectingEnds label) e = free (plain (CollectingEnds label)) (λ l n r q. let z : _≡_ {A = ℕ} 0 1 = cc in omega arith) (λ t. t) (λ o l q. let z : _≡_ {A = ℕ} 0 1 = cc in omega arith) (λ l q. let z : _≡_ {A = ℕ} 0 1 = cc in omega arith)
-  given (VotingEnds label) e = free (plain (VotingEnds label)) (λ l n r q. let z : _≡_ {A = ℕ} 0 1 = cc in omega arith) (λ t. t) (λ o l q. let z : _≡_ {A = ℕ} 0 1 = cc in omega arith) (λ l q. let z : _≡_ {A = ℕ} 0 1 = cc in omega arith)
-  given (Query sender label mask) e = no-way e
-  given (Reply sender label mask) e = no-way e
-  given (Advert sender state) e = no-way e
-  given (Update sender state) e = no-way e
-  given (Vote sender label digest) e = no-way e
-  given (Setpoints sender label digest) e = no-way e
-  given (Refused number) e = no-way e
+    where
+      at : {k : Head} → h ≡ k → fairly meters w i k ≡ true
+      at q = subst (λ (k : Head). fairly meters w i k ≡ true) q e
 
   -- a message that was sent may be passed
-  passed : (a : Message) → List·Memᴰ a (w .sent) → exchanged (a .head) ≡ true → Kept meters w i a
-  unfolding exchanged
+  passed : (a : Message) → List·Memᴰ a (w .sent) → isExchanged (a .head) ≡ true → Kept meters w i a
   passed a m e =
       record {
-        one-reading = λ l n r q. no-way (sym (ap exchanged q) ∙ e);
+        one-reading = λ l n r q. no-way (sym (ap isExchanged q) ∙ e);
         not-made-up = λ t. m;
-        own-number = λ o l q. no-way (sym (ap exchanged q) ∙ e);
-        stored-first = λ l q. no-way (sym (ap exchanged q) ∙ e);
-        highest-floor = λ o l q. no-way (sym (ap exchanged q) ∙ e);
+        own-number = λ o l q. no-way (sym (ap isExchanged q) ∙ e);
+        stored-first = λ l q. no-way (sym (ap isExchanged q) ∙ e);
+        highest-floor = λ o l q. no-way (sym (ap isExchanged q) ∙ e);
       }
 
 -- the test is right

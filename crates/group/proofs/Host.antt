@@ -2,18 +2,21 @@
 use Prim.Native.Nat.{ℕ, _≤_}
 use native.Mathlib.Omega.{arith}
 use mathlib.Core.Path.{_≡_, refl, sym, ap, subst}
-use mathlib.Core.List.{List·Memᴰ, List·Memᴰ·tail, List·Memᴰ·cases-cons, List·Memᴰ·not-nil, List·Memᴰ·append-cases}
-use mathlib.Core.Logic.{_⊎_, inl, inr, ⊎-elim}
+use mathlib.Core.List.{[], _∷_, List·Memᴰ, List·Memᴰ·tail, List·Memᴰ·cases-cons, List·Memᴰ·not-nil, List·Memᴰ·append-cases}
+use mathlib.Core.Logic.{inl, inr, ⊎-elim}
 use mathlib.Core.Option.{Option, none, some}
 use Rattle.units.specs.declared.labels.RoundLabel.{RoundLabel}
 use Rattle.units.specs.declared.settings.Numbers.{Numbers}
+use Rattle.units.proofs.Every.{no-way}
 use Rattle.message.specs.declared.head.Head.{Head}
-use Rattle.message.specs.declared.head.Head.the-variants.{Reading, Query, Reply, Advert, Update, Vote, Setpoints, Due, CollectingEnds, VotingEnds, Floor, Start, Refused}
+use Rattle.message.specs.declared.head.Head.the-variants.{Floor, Start}
 use Rattle.message.specs.declared.value.Message.{Message}
 use Rattle.message.specs.Message.{plain}
+use Rattle.message.proofs.Views.{floor-seen, by-kind}
+use Rattle.fields.proofs.Cases.{absurd-by}
 use Rattle.controller.specs.declared.state.Controller.{Controller}
-use Rattle.group.specs.World.{Mark, mark, World, Event, hand, store, crash, confirms, handed, after}
-use Rattle.group.specs.Premises.{Meters, Kept, On, here, next, Run}
+use Rattle.group.specs.World.{Mark, mark, here, next, hand, store, crash, On, World, Event, confirms, handed, after}
+use Rattle.group.specs.Premises.{Meters, Kept, Run}
 
 -- what is confirmed is stored
 abbrev Stored : World → Type 0
@@ -21,19 +24,11 @@ Stored w = (x : Mark) → List·Memᴰ x (w .confirmed) → List·Memᴰ x (w .s
 
 -- F alone confirms
 by-floor : (i : ℕ) (x : Mark) (h : Head) → List·Memᴰ x (confirms i h) → (label : RoundLabel) × (h ≡ Floor label) × (x ≡ mark i label)
-by-floor i x (Floor label) m = elim (List·Memᴰ·cases-cons m) [ inl e ↦ (label, refl, e) | inr n ↦ absurd (List·Memᴰ·not-nil n) ]
-by-floor i x (Reading label run raw) m = absurd (List·Memᴰ·not-nil m)
-by-floor i x (Query sender label mask) m = absurd (List·Memᴰ·not-nil m)
-by-floor i x (Reply sender label mask) m = absurd (List·Memᴰ·not-nil m)
-by-floor i x (Advert sender state) m = absurd (List·Memᴰ·not-nil m)
-by-floor i x (Update sender state) m = absurd (List·Memᴰ·not-nil m)
-by-floor i x (Vote sender label digest) m = absurd (List·Memᴰ·not-nil m)
-by-floor i x (Setpoints sender label digest) m = absurd (List·Memᴰ·not-nil m)
-by-floor i x (Due label) m = absurd (List·Memᴰ·not-nil m)
-by-floor i x (CollectingEnds label) m = absurd (List·Memᴰ·not-nil m)
-by-floor i x (VotingEnds label) m = absurd (List·Memᴰ·not-nil m)
-by-floor i x (Start own low) m = absurd (List·Memᴰ·not-nil m)
-by-floor i x (Refused number) m = absurd (List·Memᴰ·not-nil m)
+by-floor i x h =
+    by-kind (λ (k : Head). List·Memᴰ x (confirms i k) → (label : RoundLabel) × (k ≡ Floor label) × (x ≡ mark i label)) of (λ k q m. absurd (List·Memᴰ·not-nil (rw q at m))) (floor-seen h)
+  where
+    of : (label : RoundLabel) → List·Memᴰ x (mark i label ∷ []) → (l : RoundLabel) × (Floor label ≡ Floor l) × (x ≡ mark i l)
+    of label m = elim (List·Memᴰ·cases-cons m) [ inl e ↦ (label, refl, e) | inr n ↦ absurd (List·Memᴰ·not-nil n) ]
 
 module _ (s : Numbers) (meters : Meters) where
   stored-handed : (w : World) → Stored w → (i : ℕ) (a : Message) → Kept meters w i a → (u : Option Controller) → Stored (handed s w i a u)
@@ -61,9 +56,9 @@ module _ (s : Numbers) (meters : Meters) where
   unfolding plain
   restart-kept run i low f =
       record {
-        one-reading = λ l n r q. let z : _≡_ {A = ℕ} 0 1 = cc in absurd (omega arith);
-        not-made-up = λ t. absurd t;
+        one-reading = λ l n r q. absurd-by (cc);
+        not-made-up = λ t. no-way t;
         own-number = λ o l q. cc;
-        stored-first = λ l q. let z : _≡_ {A = ℕ} 0 1 = cc in absurd (omega arith);
+        stored-first = λ l q. absurd-by (cc);
         highest-floor = λ o l q label m. let z : low ≡ l = cc in omega (arith, ap (λ (k : RoundLabel). k .0) z, f label (confirmed-stored run i label m));
       }

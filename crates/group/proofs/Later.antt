@@ -8,12 +8,11 @@ use Rattle.units.specs.declared.settings.Numbers.{Numbers}
 use Rattle.message.specs.declared.value.Message.{Message}
 use Rattle.controller.specs.declared.state.Controller.{Controller}
 use Rattle.controller.specs.Step.{stepped}
-use Rattle.group.specs.World.{Mark, World, Event, hand, store, crash, handed, after}
-use Rattle.group.specs.Premises.{Meters, StoredFirst, HighestFloor, Kept, Handing, Onward, here, next, Run}
-use Rattle.group.specs.Wire.{Wire, KeptLine}
+use Rattle.group.specs.World.{Mark, WorldOf, hand, store, crash, Takes, Asks, OnwardBy, here, next, World, Event, handed, after}
+use Rattle.group.specs.Premises.{Meters, StoredFirst, HighestFloor, KeptAs, Handing, Onward, Run}
 use Rattle.group.proofs.Sent.{Fresh, new-or-old, still-sent}
 
-pub continued : {s : Numbers} {P : Handing} {u w v : World} → Onward s P u w → Onward s P w v → Onward s P u v
+pub continued : {C L H : Type 0} {takes : Takes C L H} {P : Asks C L H} {u w v : WorldOf C L} → OnwardBy takes P u w → OnwardBy takes P w v → OnwardBy takes P u v
 continued run here = run
 continued run (next on e p) = next (continued run on) e p
 
@@ -28,9 +27,9 @@ module _ (s : Numbers) (w : World) (x : Message) (m : List·Memᴰ x (w .sent)) 
   after-keeps (crash i) = m
 
 -- every message sent is among those of every later world
-pub stays-sent : {s : Numbers} {P : Handing} {w v : World} → Onward s P w v → (x : Message) → List·Memᴰ x (w .sent) → List·Memᴰ x (v .sent)
-stays-sent here x m = m
-stays-sent {s = s} (next {v} on e p) x m = after-keeps s v x (stays-sent on x m) e
+pub stays-sent : (s : Numbers) {P : Handing} {w v : World} → Onward s P w v → (x : Message) → List·Memᴰ x (w .sent) → List·Memᴰ x (v .sent)
+stays-sent s here x m = m
+stays-sent s (next {v} on e p) x m = after-keeps s v x (stays-sent s on x m) e
 
 -- what holds of every message that a step sends holds of every message of a run
 module _ (s : Numbers) (Q : Message → Type 0) (each : (c : Controller) (a x : Message) → Fresh s (stepped s c a) x → Q x) where
@@ -45,24 +44,13 @@ module _ (s : Numbers) (Q : Message → Type 0) (each : (c : Controller) (a x : 
   every-sent (next {v} run (crash i) p) x m = every-sent run x m
 
 -- ---- A CRASH INSIDE A TURN: where less was sent than the world has, and the premises hold of that, they hold of the world. Each clause asks that something was sent, and none that something was not
-module _ (meters : Meters) (i : ℕ) where
-  pub more-sent : (w v : World) (a : Message) → ((x : Message) → List·Memᴰ x (w .sent) → List·Memᴰ x (v .sent)) → w .stored ≡ v .stored → w .confirmed ≡ v .confirmed → Kept meters w i a → Kept meters v i a
-  more-sent w v a f p q k =
-      record {
-        one-reading = k .one-reading;
-        own-number = k .own-number;
-        not-made-up = λ t. f a (k .not-made-up t);
-        stored-first = subst (λ (l : List Mark). StoredFirst l i a) p (k .stored-first);
-        highest-floor = subst (λ (l : List Mark). HighestFloor l i a) q (k .highest-floor);
-      }
-
-  pub more-lines : (w v : Wire) (line : List ℕ) (a : Message) → ((x : List ℕ) → List·Memᴰ x (w .sent) → List·Memᴰ x (v .sent)) → w .stored ≡ v .stored → w .confirmed ≡ v .confirmed
-      → KeptLine meters w i line a → KeptLine meters v i line a
-  more-lines w v line a f p q k =
-      record {
-        one-reading = k .one-reading;
-        own-number = k .own-number;
-        not-made-up = λ t. f line (k .not-made-up t);
-        stored-first = subst (λ (l : List Mark). StoredFirst l i a) p (k .stored-first);
-        highest-floor = subst (λ (l : List Mark). HighestFloor l i a) q (k .highest-floor);
-      }
+pub more-sent : {C L : Type 0} (meters : Meters) (w v : WorldOf C L) (i : ℕ) (x : L) (a : Message) → ((y : L) → List·Memᴰ y (w .sent) → List·Memᴰ y (v .sent)) → w .stored ≡ v .stored → w .confirmed ≡ v .confirmed
+    → KeptAs meters w i x a → KeptAs meters v i x a
+more-sent meters w v i x a f p q k =
+    record {
+      one-reading = k .one-reading;
+      own-number = k .own-number;
+      not-made-up = λ t. f x (k .not-made-up t);
+      stored-first = subst (λ (l : List Mark). StoredFirst l i a) p (k .stored-first);
+      highest-floor = subst (λ (l : List Mark). HighestFloor l i a) q (k .highest-floor);
+    }

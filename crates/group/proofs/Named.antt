@@ -31,6 +31,7 @@ use Rattle.message.specs.declared.head.Head.the-variants.{Reading, Reply, Updat
 use Rattle.message.specs.declared.value.Message.{Message}
 use Rattle.message.specs.Head.{headFits}
 use Rattle.message.specs.Message.{messageFits}
+use Rattle.message.specs.View.{isTelling}
 use Rattle.controller.specs.declared.state.Controller.{Controller}
 use Rattle.controller.specs.State.{ballotAt}
 use Rattle.controller.specs.Merge.{agreePlace, agreeAt, agrees}
@@ -41,7 +42,7 @@ use Rattle.controller_laws.proofs.Clashes.{clash-only}
 use Rattle.controller_laws.proofs.Fits.{inputs}
 use Rattle.controller_laws.proofs.Valid.{Valid, sized}
 use Rattle.group.specs.World.{World}
-use Rattle.group.specs.Premises.{Meters, Telling, Released, Enough, Run}
+use Rattle.group.specs.Premises.{Meters, Released, Enough, Run}
 use Rattle.group.specs.Demand.{Canon}
 use Rattle.group.proofs.Once.{once}
 use Rattle.group.proofs.Sound.{Fine, Says}
@@ -107,8 +108,8 @@ module _ (s : Numbers) (meters : Meters) {w : World} (run : Run s (Enough meters
       f : Fine s meters (w .sent) (once s meters run .lines) (once s meters run .unique) c
       f = sound-run s meters run .each i c at
 
-      sent-one : (h : Head) → a .head ≡ h → Telling h → List·Memᴰ a (w .sent)
-      sent-one h e t = p .not-made-up (subst Telling (sym e) t)
+      sent-one : (h : Head) → a .head ≡ h → isTelling h ≡ true → List·Memᴰ a (w .sent)
+      sent-one h e t = p .not-made-up (ap isTelling e ∙ t)
 
       fits : (h : Head) → a .head ≡ h → headFits (s .group) h ≡ true
       fits h e = subst (λ (x : Head). headFits (s .group) x ≡ true) e (inputs s c a (clash-only s c a q .0) .message .head)
@@ -133,9 +134,9 @@ module _ (s : Numbers) (meters : Meters) {w : World} (run : Run s (Enough meters
       clash h e (by-reply {sender} {mask} ne phase b) = true≢false (sym b ∙ ap not (agreed mask (λ i k q. x .readings sender (c .label) mask e i k q)))
         where
           x : Says s meters (w .sent) (once s meters run .lines) (once s meters run .unique) a
-          x = sound-run s meters run .said a (sent-one (Reply sender (c .label) mask) e tt)
+          x = sound-run s meters run .said a (sent-one (Reply sender (c .label) mask) e refl)
       clash h e (by-update {sender} ne phase b) =
-          let z : a .estimates ≡ c .estimates = one-state (in-message {x = a} {sender = sender} {label = c .state} (sent-one (Update sender (c .state)) e tt) e) (in-controller {i = i} {c = c} at) in
+          let z : a .estimates ≡ c .estimates = one-state (in-message {x = a} {sender = sender} {label = c .state} (sent-one (Update sender (c .state)) e refl) e) (in-controller {i = i} {c = c} at) in
           true≢false (sym (ap (λ (x : List Estimate). sameState x (c .estimates)) z ∙ same-state-self (s .group .m) (c .estimates) (valid .estimates)) ∙ b)
       clash h e (by-digest {sender} {digest} {e = d} ne busy b n) =
-          n (one-digest sender (c .label) d digest (f .votes sender d b) (record { line = a; among = sent-one (Vote sender (c .label) digest) e tt; said = e }))
+          n (one-digest sender (c .label) d digest (f .votes sender d b) (record { line = a; among = sent-one (Vote sender (c .label) digest) e refl; said = e }))

@@ -14,6 +14,7 @@ use Rattle.message.specs.declared.head.Head.{Head}
 use Rattle.message.specs.declared.head.Head.the-variants.{Vote, Start}
 use Rattle.message.specs.declared.value.Message.{Message}
 use Rattle.message.specs.Message.{messageFits}
+use Rattle.fields.proofs.Cases.{absurd-by}
 use Rattle.plan.specs.Votes.{ownDigest}
 use Rattle.controller.specs.declared.state.Controller.{Controller}
 use Rattle.controller.specs.declared.step.Answer.{Answer}
@@ -29,8 +30,8 @@ use Rattle.controller_laws.proofs.Fits.{step-fits, started-fits}
 use Rattle.controller_laws.proofs.Outcomes.{sent-by, start-step}
 use Rattle.controller_laws.proofs.Rises.{step-rises}
 use Rattle.controller_laws.proofs.Sendings.{sent-fits, vote-once}
-use Rattle.group.specs.World.{World, empty, hand, store, crash, put, withUp, sentBy, rising, answered, handed}
-use Rattle.group.specs.Premises.{Meters, Released, Enough, here, next, Run}
+use Rattle.group.specs.World.{here, next, World, empty, hand, store, crash, put, withUp, sentBy, rising, answered, handed}
+use Rattle.group.specs.Premises.{Meters, Released, Enough, Run}
 use Rattle.group.proofs.Sent.{no-one, same-one, put-cases, risen-by, new-or-old, released-by, start-or-not}
 
 -- what a vote that goes out by a step is: the own digest of a pending controller
@@ -42,13 +43,13 @@ pub record OwnVote (c : Controller) (h : Head) (n : Controller) (i : ℕ) (label
 
 vote-said : {s : Numbers} {c : Controller} {h : Head} {n : Controller} {k : Head} → SentBy s c h n k → (i : ℕ) (label : RoundLabel) (d : Digest) → k ≡ Vote i label d
     → (i ≡ c .own) × (label ≡ c .label) × (d ≡ ownDigest (briefOf c))
-vote-said (query e) i label d q = let z : _≡_ {A = ℕ} 0 1 = cc in absurd (omega arith)
-vote-said (reply mask e) i label d q = let z : _≡_ {A = ℕ} 0 1 = cc in absurd (omega arith)
-vote-said (advert e) i label d q = let z : _≡_ {A = ℕ} 0 1 = cc in absurd (omega arith)
-vote-said (update e) i label d q = let z : _≡_ {A = ℕ} 0 1 = cc in absurd (omega arith)
-vote-said (floor e) i label d q = let z : _≡_ {A = ℕ} 0 1 = cc in absurd (omega arith)
+vote-said (query e) i label d q = absurd-by (cc)
+vote-said (reply mask e) i label d q = absurd-by (cc)
+vote-said (advert e) i label d q = absurd-by (cc)
+vote-said (update e) i label d q = absurd-by (cc)
+vote-said (floor e) i label d q = absurd-by (cc)
 vote-said (vote e p) i label d q = (cc, cc, cc)
-vote-said (setpoints e) i label d q = let z : _≡_ {A = ℕ} 0 1 = cc in absurd (omega arith)
+vote-said (setpoints e) i label d q = absurd-by (cc)
 
 pub own-vote : (s : Numbers) (c : Controller) (a : Message) (i : ℕ) (label : RoundLabel) (d : Digest) → IsSent (stepped s c a) (Vote i label d) → OwnVote c (a .head) (stepped s c a .next) i label d
 own-vote s c a i label d p =
@@ -77,7 +78,7 @@ module _ (s : Numbers) (meters : Meters) where
       }
 
   -- a controller that may stand at the number i
-  pub record May (w : World) (i : ℕ) (n : Controller) : Type 0 where
+  record May (w : World) (i : ℕ) (n : Controller) : Type 0 where
     pub own : n .own ≡ i
     pub fit : controllerFits s n ≡ true
     pub bound : (label : RoundLabel) (d : Digest) → Released (w .sent) i label d → label .0 ≤ n .label .0

@@ -25,17 +25,17 @@ use Rattle.session.specs.Turn.{coreStart, quiet, turn}
 use Rattle.session.proofs.Led.{lines-led}
 use Rattle.session.proofs.Program.{first-start, later-start}
 use Rattle.session.proofs.Whole.{led-on, told-on}
-use Rattle.group.specs.World.{put}
+use Rattle.group.specs.World.{empty, EventOf, hand, store, crash, put, On, here, next}
 use Rattle.group.specs.Premises.{Meters}
 use Rattle.group.specs.Wire.{readAs}
-use Rattle.group.specs.Stations.{Stations, still, Doing, hand, store, crash, boot, puts, turned, later, Booted, OnStation, OnwardStations, here, next}
+use Rattle.group.specs.Stations.{Stations, Given, line, boot, puts, turned, later, Booted, KeptGiven, OnwardStations}
 use Rattle.group.specs.Programs.{Life, linesIn, born, livedOn, livesAfter, lives, Goes, GoesIn, Written, now, before, ByTurns}
 use Rattle.group.proofs.Sent.{no-one, same-one, put-cases, put-there, put-same}
 use Rattle.group.proofs.Stations.{Past, Fine, FineIn, led-past, follows}
 use Rattle.group.proofs.Texts.{told-whole}
 
 -- ---- lines put ahead of others
-pub puts-old : (ls old : List (List ℕ)) (x : List ℕ) → List·Memᴰ x old → List·Memᴰ x (puts ls old)
+puts-old : (ls old : List (List ℕ)) (x : List ℕ) → List·Memᴰ x old → List·Memᴰ x (puts ls old)
 unfolding puts
 puts-old [] old x m = m
 puts-old (l ∷ ls) old x m = puts-old ls (l ∷ old) x (List·Memᴰ·tail m)
@@ -58,35 +58,35 @@ module _ (s : Numbers) (meters : Meters) where
   unfolding put pick
   put-goes up ls i x l f g j = by-test (eqb j i) (λ t. rw t g) (λ t. rw t (f j))
 
-  lived : (line : List ℕ) (c : Core) (l : Option Life) → GoesIn s (some c) l → GoesIn s (some (turn c line .next)) (livedOn line (some c) l)
+  lived : (ln : List ℕ) (c : Core) (l : Option Life) → GoesIn s (some c) l → GoesIn s (some (turn c ln .next)) (livedOn ln (some c) l)
   unfolding led told
-  lived line c none g = absurd g
-  lived line c (some l) g =
-      let all = append-assoc (l .settings) (l .since) (line ∷ []) in
+  lived ln c none g = absurd g
+  lived ln c (some l) g =
+      let all = append-assoc (l .settings) (l .since) (ln ∷ []) in
       let d = led coreStart (linesIn l) in
       record {
         booted = g .booted;
-        core = ap (λ (x : Core). turn x line .next) (g .core) ∙ sym (led-on coreStart (linesIn l) (line ∷ [])) ∙ ap (led coreStart) all;
-        text = (λ k. g .text k ++ turn (g .core k) line .text) ∙ ap (λ (t : List ℕ). told coreStart (linesIn l) ++ t) (sym (append-nil (turn d line .text)))
-            ∙ sym (told-on coreStart (linesIn l) (line ∷ [])) ∙ ap (told coreStart) all;
+        core = ap (λ (x : Core). turn x ln .next) (g .core) ∙ sym (led-on coreStart (linesIn l) (ln ∷ [])) ∙ ap (led coreStart) all;
+        text = (λ k. g .text k ++ turn (g .core k) ln .text) ∙ ap (λ (t : List ℕ). told coreStart (linesIn l) ++ t) (sym (append-nil (turn d ln .text)))
+            ∙ sym (told-on coreStart (linesIn l) (ln ∷ [])) ∙ ap (told coreStart) all;
       }
 
-  stands-turned : (w : Stations) (ls : ℕ → Option Life) → ((j : ℕ) → GoesIn s (w .up j) (ls j)) → (i : ℕ) (line : List ℕ) (x : Option Core) → w .up i ≡ x
-      → (j : ℕ) → GoesIn s (turned w i line x .up j) (put ls i (livedOn line x (ls i)) j)
-  stands-turned w ls g i line none u j = subst (GoesIn s (w .up j)) (sym (put-same ls i j)) (g j)
-  stands-turned w ls g i line (some c) u j =
-      put-goes (w .up) ls i (some (turn c line .next)) (livedOn line (some c) (ls i)) g (lived line c (ls i) (subst (λ (x : Option Core). GoesIn s x (ls i)) u (g i))) j
+  stands-turned : (w : Stations) (ls : ℕ → Option Life) → ((j : ℕ) → GoesIn s (w .up j) (ls j)) → (i : ℕ) (ln : List ℕ) (x : Option Core) → w .up i ≡ x
+      → (j : ℕ) → GoesIn s (turned w i ln x .up j) (put ls i (livedOn ln x (ls i)) j)
+  stands-turned w ls g i ln none u j = subst (GoesIn s (w .up j)) (sym (put-same ls i j)) (g j)
+  stands-turned w ls g i ln (some c) u j =
+      put-goes (w .up) ls i (some (turn c ln .next)) (livedOn ln (some c) (ls i)) g (lived ln c (ls i) (subst (λ (x : Option Core). GoesIn s x (ls i)) u (g i))) j
 
   goes-born : (lines : List (List ℕ)) → Booted s (led coreStart lines) → Goes s (led coreStart lines) (born lines)
   goes-born lines b = record { booted = b; core = ap (led coreStart) (sym (append-nil lines)); text = ap (told coreStart) (sym (append-nil lines)) }
 
-  stands-after : (w : Stations) (ls : ℕ → Option Life) → ((j : ℕ) → GoesIn s (w .up j) (ls j)) → (e : Doing) → OnStation s meters w e → (j : ℕ) → GoesIn s (later w e .up j) (livesAfter (w .up) ls e j)
-  stands-after w ls g (hand i line) k = stands-turned w ls g i line (w .up i) refl
+  stands-after : (w : Stations) (ls : ℕ → Option Life) → ((j : ℕ) → GoesIn s (w .up j) (ls j)) → (e : EventOf Given) → On (KeptGiven s meters) w e → (j : ℕ) → GoesIn s (later w e .up j) (livesAfter (w .up) ls e j)
+  stands-after w ls g (hand i (line ln)) k = stands-turned w ls g i ln (w .up i) refl
   stands-after w ls g (store i label) k = g
   stands-after w ls g (crash i) k = put-goes (w .up) ls i none none g tt
-  stands-after w ls g (boot i lines) k = put-goes (w .up) ls i (some (led coreStart lines)) (some (born lines)) g (goes-born lines k)
+  stands-after w ls g (hand i (boot lines)) k = put-goes (w .up) ls i (some (led coreStart lines)) (some (born lines)) g (goes-born lines k)
 
-  pub all-stand : {w : Stations} (run : OnwardStations s meters still w) (i : ℕ) → GoesIn s (w .up i) (lives run i)
+  all-stand : {w : Stations} (run : OnwardStations s meters empty w) (i : ℕ) → GoesIn s (w .up i) (lives run i)
   unfolding lives
   all-stand here i = tt
   all-stand (next {v} on e k) i = stands-after v (lives on) (λ j. all-stand on j) e k i
@@ -100,94 +100,94 @@ module _ (s : Numbers) (meters : Meters) where
   goes-of x y c l p q g = subst (GoesIn s (some c)) q (subst (λ (z : Option Core). GoesIn s z y) p g)
 
   -- ---- what was sent is what they wrote
-  stays : (w : Stations) (x : List ℕ) → List·Memᴰ x (w .sent) → (e : Doing) → List·Memᴰ x (later w e .sent)
-  stays w x m (hand i line) = by (w .up i)
+  stays : (w : Stations) (x : List ℕ) → List·Memᴰ x (w .sent) → (e : EventOf Given) → List·Memᴰ x (later w e .sent)
+  stays w x m (hand i (line ln)) = by (w .up i)
     where
-      by : (u : Option Core) → List·Memᴰ x (turned w i line u .sent)
+      by : (u : Option Core) → List·Memᴰ x (turned w i ln u .sent)
       by none = m
-      by (some c) = puts-old (linesOf (turn c line .text)) (w .sent) x m
+      by (some c) = puts-old (linesOf (turn c ln .text)) (w .sent) x m
   stays w x m (store i label) = m
   stays w x m (crash i) = m
-  stays w x m (boot i lines) = puts-old (linesOf (told coreStart lines)) (w .sent) x m
+  stays w x m (hand i (boot lines)) = puts-old (linesOf (told coreStart lines)) (w .sent) x m
 
   -- the lines of what was written before, and of one turn more
-  wrote-on : (c : Core) (l : Life) (line : List ℕ) → Goes s c l → linesOf (l .wrote ++ turn c line .text) ≡ linesOf (l .wrote) ++ linesOf (turn c line .text)
-  wrote-on c l line g =
-      ap (λ (t : List ℕ). linesOf (t ++ turn c line .text)) (g .text) ∙ told-whole coreStart (linesIn l) (turn c line .text) ∙ ap (λ (t : List ℕ). linesOf t ++ linesOf (turn c line .text)) (sym (g .text))
+  wrote-on : (c : Core) (l : Life) (ln : List ℕ) → Goes s c l → linesOf (l .wrote ++ turn c ln .text) ≡ linesOf (l .wrote) ++ linesOf (turn c ln .text)
+  wrote-on c l ln g =
+      ap (λ (t : List ℕ). linesOf (t ++ turn c ln .text)) (g .text) ∙ told-whole coreStart (linesIn l) (turn c ln .text) ∙ ap (λ (t : List ℕ). linesOf t ++ linesOf (turn c ln .text)) (sym (g .text))
 
-  only-turned : {w : Stations} (run : OnwardStations s meters still w) (i : ℕ) (line : List ℕ) (k : OnStation s meters w (hand i line)) (u : Option Core) → w .up i ≡ u → (x : List ℕ)
-      → List·Memᴰ x (turned w i line u .sent) → ((y : List ℕ) → List·Memᴰ y (w .sent) → Written w run y) → Written (later w (hand i line)) (next run (hand i line) k) x
+  only-turned : {w : Stations} (run : OnwardStations s meters empty w) (i : ℕ) (ln : List ℕ) (k : KeptGiven s meters w i (line ln)) (u : Option Core) → w .up i ≡ u → (x : List ℕ)
+      → List·Memᴰ x (turned w i ln u .sent) → ((y : List ℕ) → List·Memᴰ y (w .sent) → Written w run y) → Written (later w (hand i (line ln))) (next run (hand i (line ln)) k) x
   unfolding lives
-  only-turned run i line k none e x m f = before (hand i line) k (f x m)
-  only-turned {w} run i line k (some c) e x m f =
+  only-turned run i ln k none e x m f = before (hand i (line ln)) k (f x m)
+  only-turned {w} run i ln k (some c) e x m f =
       let a = life-of c (lives run i) (subst (λ (u : Option Core). GoesIn s u (lives run i)) e (all-stand run i)) in
       ⊎-elim
-      (λ n. now i _ (put-there (lives run) i _ ∙ (λ t. livedOn line (e t) (a .1 t)))
-      (subst (List·Memᴰ x) (sym (wrote-on c (a .0) line (a .2))) (Memᴰ·append-right (linesOf (a .0 .wrote)) n)))
-      (λ n. before (hand i line) k (f x n)) (puts-cases (linesOf (turn c line .text)) (w .sent) x m)
+      (λ n. now i _ (put-there (lives run) i _ ∙ (λ t. livedOn ln (e t) (a .1 t)))
+      (subst (List·Memᴰ x) (sym (wrote-on c (a .0) ln (a .2))) (Memᴰ·append-right (linesOf (a .0 .wrote)) n)))
+      (λ n. before (hand i (line ln)) k (f x n)) (puts-cases (linesOf (turn c ln .text)) (w .sent) x m)
 
-  sent-only : {w : Stations} (run : OnwardStations s meters still w) (x : List ℕ) → List·Memᴰ x (w .sent) → Written w run x
+  sent-only : {w : Stations} (run : OnwardStations s meters empty w) (x : List ℕ) → List·Memᴰ x (w .sent) → Written w run x
   unfolding lives
   sent-only here x m = absurd (List·Memᴰ·not-nil m)
-  sent-only (next {v} on (hand i line) k) x m = only-turned on i line k (v .up i) refl x m (λ y n. sent-only on y n)
+  sent-only (next {v} on (hand i (line ln)) k) x m = only-turned on i ln k (v .up i) refl x m (λ y n. sent-only on y n)
   sent-only (next on (store i label) k) x m = before (store i label) k (sent-only on x m)
   sent-only (next on (crash i) k) x m = before (crash i) k (sent-only on x m)
-  sent-only (next {v} on (boot i lines) k) x m =
-      ⊎-elim (λ n. now i (born lines) (put-there (lives on) i (some (born lines))) n) (λ n. before (boot i lines) k (sent-only on x n))
+  sent-only (next {v} on (hand i (boot lines)) k) x m =
+      ⊎-elim (λ n. now i (born lines) (put-there (lives on) i (some (born lines))) n) (λ n. before (hand i (boot lines)) k (sent-only on x n))
       (puts-cases (linesOf (told coreStart lines)) (v .sent) x m)
 
   -- all that a program that runs has written was sent
   abbrev Told : Stations → (ℕ → Option Life) → Type 0
   Told w ls = (i : ℕ) (l : Life) → ls i ≡ some l → (x : List ℕ) → List·Memᴰ x (linesOf (l .wrote)) → List·Memᴰ x (w .sent)
 
-  told-turned : (w : Stations) (ls : ℕ → Option Life) → Told w ls → (i : ℕ) (line : List ℕ) (u : Option Core) (y : Option Life) → ls i ≡ y → GoesIn s u y → (l : Life) → livedOn line u y ≡ some l
-      → (x : List ℕ) → List·Memᴰ x (linesOf (l .wrote)) → List·Memᴰ x (turned w i line u .sent)
-  told-turned w ls f i line none y q g l e x m = f i l (q ∙ e) x m
-  told-turned w ls f i line (some c) none q g l e x m = no-one e
-  told-turned w ls f i line (some c) (some a) q g l e x m =
-      ⊎-elim (λ n. puts-old (linesOf (turn c line .text)) (w .sent) x (f i a q x n)) (λ n. puts-new (linesOf (turn c line .text)) (w .sent) x n)
-      (List·Memᴰ·append-cases (linesOf (a .wrote)) (subst (List·Memᴰ x) (ap (λ (b : Life). linesOf (b .wrote)) (sym (same-one e)) ∙ wrote-on c a line g) m))
+  told-turned : (w : Stations) (ls : ℕ → Option Life) → Told w ls → (i : ℕ) (ln : List ℕ) (u : Option Core) (y : Option Life) → ls i ≡ y → GoesIn s u y → (l : Life) → livedOn ln u y ≡ some l
+      → (x : List ℕ) → List·Memᴰ x (linesOf (l .wrote)) → List·Memᴰ x (turned w i ln u .sent)
+  told-turned w ls f i ln none y q g l e x m = f i l (q ∙ e) x m
+  told-turned w ls f i ln (some c) none q g l e x m = no-one e
+  told-turned w ls f i ln (some c) (some a) q g l e x m =
+      ⊎-elim (λ n. puts-old (linesOf (turn c ln .text)) (w .sent) x (f i a q x n)) (λ n. puts-new (linesOf (turn c ln .text)) (w .sent) x n)
+      (List·Memᴰ·append-cases (linesOf (a .wrote)) (subst (List·Memᴰ x) (ap (λ (b : Life). linesOf (b .wrote)) (sym (same-one e)) ∙ wrote-on c a ln g) m))
 
-  told-put : (w : Stations) (ls : ℕ → Option Life) (e : Doing) (i : ℕ) (y : Option Life) → Told w ls → ((l : Life) → y ≡ some l → (x : List ℕ) → List·Memᴰ x (linesOf (l .wrote)) → List·Memᴰ x (later w e .sent))
+  told-put : (w : Stations) (ls : ℕ → Option Life) (e : EventOf Given) (i : ℕ) (y : Option Life) → Told w ls → ((l : Life) → y ≡ some l → (x : List ℕ) → List·Memᴰ x (linesOf (l .wrote)) → List·Memᴰ x (later w e .sent))
       → Told (later w e) (put ls i y)
   told-put w ls e i y f g j l q x m = elim (put-cases ls i y j l q) [ inl p ↦ g l (p .1) x m | inr p ↦ stays w x (f j l (p .1) x m) e ]
 
-  told-all : {w : Stations} (run : OnwardStations s meters still w) → Told w (lives run)
+  told-all : {w : Stations} (run : OnwardStations s meters empty w) → Told w (lives run)
   unfolding lives
   told-all here = λ i l q x m. no-one q
-  told-all (next {v} on (hand i line) k) =
-      told-put v (lives on) (hand i line) i _ (told-all on) (λ l q x m. told-turned v (lives on) (told-all on) i line (v .up i) (lives on i) refl (all-stand on i) l q x m)
+  told-all (next {v} on (hand i (line ln)) k) =
+      told-put v (lives on) (hand i (line ln)) i _ (told-all on) (λ l q x m. told-turned v (lives on) (told-all on) i ln (v .up i) (lives on i) refl (all-stand on i) l q x m)
   told-all (next {v} on (store i label) k) = told-all on
   told-all (next {v} on (crash i) k) = told-put v (lives on) (crash i) i none (told-all on) (λ l q x m. no-one q)
-  told-all (next {v} on (boot i lines) k) =
-      told-put v (lives on) (boot i lines) i (some (born lines)) (told-all on)
+  told-all (next {v} on (hand i (boot lines)) k) =
+      told-put v (lives on) (hand i (boot lines)) i (some (born lines)) (told-all on)
       (λ l q x m. puts-new (linesOf (told coreStart lines)) (v .sent) x (subst (λ (b : Life). List·Memᴰ x (linesOf (b .wrote))) (sym (same-one q)) m))
 
-  sent-all : {w : Stations} {run : OnwardStations s meters still w} (x : List ℕ) → Written w run x → List·Memᴰ x (w .sent)
+  sent-all : {w : Stations} {run : OnwardStations s meters empty w} (x : List ℕ) → Written w run x → List·Memᴰ x (w .sent)
   sent-all {run = run} x (now i l q m) = told-all run i l q x m
   sent-all x (before {w} e k m) = stays w x (sent-all x m) e
 
   -- ---- a session that is fed the same bytes
-  fed-same : {w : Stations} (run : OnwardStations s meters still w) (i : ℕ) (c : Core) (l : Life) → w .up i ≡ some c → lives run i ≡ some l → ((x : List ℕ) → List·Memᴰ x (linesIn l) → ended x ≡ true)
+  fed-same : {w : Stations} (run : OnwardStations s meters empty w) (i : ℕ) (c : Core) (l : Life) → w .up i ≡ some c → lives run i ≡ some l → ((x : List ℕ) → List·Memᴰ x (linesIn l) → ended x ≡ true)
       → {out : List ℕ} {y : Session} → Feeds sessionStart (inputOf (linesIn l)) out y → (y .core ≡ c) × (out ≡ l .wrote)
   fed-same {w} run i c l p q f d =
       let g = goes-of (w .up i) (lives run i) c l p q (all-stand run i) in
       let r = lines-led (linesIn l) f d in (r .0 ∙ sym (g .core), r .1 ∙ sym (g .text))
 
   -- EVERY RUN OF STATIONS
-  pub by-turns : {w : Stations} (run : OnwardStations s meters still w) → ByTurns run
+  pub by-turns : {w : Stations} (run : OnwardStations s meters empty w) → ByTurns s meters w run
   by-turns run = record { stands = all-stand run; sent-only = sent-only run; sent-all = λ x d. sent-all x d; fed = fed-same run }
 
   -- ---- ANOTHER NUMBER, OR THE SAME ONE AGAIN: B to a program that runs leads where a boot with the same settings and the same B lead, and writes the same
-  pub starts-anew : {w : Stations} (run : OnwardStations s meters still w) (i : ℕ) (c : Core) (l : Life) → w .up i ≡ some c → lives run i ≡ some l → c .stage ≡ Running
-      → (line : List ℕ) (j : ℕ) (floor : RoundLabel) → readLine (s .group) line .verdict ≡ Taken → readAs s line .head ≡ Start j floor
-      → turn c line ≡ turn (led coreStart (l .settings)) line
-  starts-anew {w} run i c l p q e line j floor v h =
+  pub starts-anew : {w : Stations} (run : OnwardStations s meters empty w) (i : ℕ) (c : Core) (l : Life) → w .up i ≡ some c → lives run i ≡ some l → c .stage ≡ Running
+      → (ln : List ℕ) (j : ℕ) (floor : RoundLabel) → readLine (s .group) ln .verdict ≡ Taken → readAs s ln .head ≡ Start j floor
+      → turn c ln ≡ turn (led coreStart (l .settings)) ln
+  starts-anew {w} run i c l p q e ln j floor v h =
       let g = goes-of (w .up i) (lives run i) c l p q (all-stand run i) in
       let f : Fine s c = subst (FineIn s) p (follows s meters (λ k. tt) run .1 i) in
       let d = led coreStart (l .settings) in
       let b = g .booted in
       let st : c .settling ≡ d .settling = ap (λ (x : Core). x .settling) (g .core ∙ led-on coreStart (l .settings) (l .since)) ∙ led-past d (l .since) (subst Past (sym (b .waits)) tt) .0 in
-      later-start c line j floor e (f .fits) (ap (λ (n : Numbers). readLine (n .group) line .verdict) (f .settings) ∙ v) (ap (λ (n : Numbers). readLine (n .group) line .message .head) (f .settings) ∙ h)
+      later-start c ln j floor e (f .fits) (ap (λ (n : Numbers). readLine (n .group) ln .verdict) (f .settings) ∙ v) (ap (λ (n : Numbers). readLine (n .group) ln .message .head) (f .settings) ∙ h)
       ∙ (λ k. quiet (record { stage = Running; settling = st k; controller = startOf (st k .settings .numbers) j floor }))
-      ∙ sym (first-start d line j floor (b .waits) (ap (λ (n : Numbers). readLine (n .group) line .verdict) (b .settings) ∙ v) (ap (λ (n : Numbers). readLine (n .group) line .message .head) (b .settings) ∙ h))
+      ∙ sym (first-start d ln j floor (b .waits) (ap (λ (n : Numbers). readLine (n .group) ln .verdict) (b .settings) ∙ v) (ap (λ (n : Numbers). readLine (n .group) ln .message .head) (b .settings) ∙ h))

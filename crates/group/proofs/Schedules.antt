@@ -3,7 +3,7 @@ use mathlib.Core.Path.{_≡_, refl}
 use mathlib.Core.Bool.{false}
 use Rattle.controller_laws.specs.Session.{numbers}
 use Rattle.group.specs.Examples.{three}
-use Rattle.group.specs.WrongRules.{kind, votesAtOnce, crashAtOnce, collectsAgain, collectedTwice, computesFromHeld, heldMore, shortOf, stopsShort, four, tieMissed, wrong, wrongSays, updatesWhileVoting, updatedInside, outOfRange}
+use Rattle.group.specs.WrongRules.{votesAtOnce, crashAtOnce, collectsAgain, collectedTwice, computesFromHeld, heldMore, shortOf, stopsShort, four, tieMissed, wrong, wrongSays, updatesWhileVoting, updatedInside, outOfRange}
 use Rattle.group.specs.Schedules.{playedBy, unfairBy, issueIf, issues, comesOf, floorForgotten, lastFloor, floorUnstored, twoReadings, voteMadeUp, twins, broken, brokenSays, otherWeights, apart, apartSays}
 use Rattle.group.proofs.Computes.{run-computes}
 
@@ -19,10 +19,10 @@ apart-says = refl
 
 -- where a rule of the step is wrong, two S of one label differ though every premise is kept
 pub wrong-says : wrong ≡ wrongSays
-unfolding run-computes three four kind votesAtOnce crashAtOnce collectsAgain collectedTwice computesFromHeld heldMore shortOf stopsShort tieMissed playedBy unfairBy issueIf issues comesOf
+unfolding run-computes three four votesAtOnce crashAtOnce collectsAgain collectedTwice computesFromHeld heldMore shortOf stopsShort tieMissed playedBy unfairBy issueIf issues comesOf
 wrong-says = refl
 
 -- U taken while voting: the controller is out of range from then on
 pub updated-out : outOfRange ≡ false
-unfolding run-computes three kind updatesWhileVoting updatedInside playedBy
+unfolding run-computes three updatesWhileVoting updatedInside playedBy
 updated-out = refl

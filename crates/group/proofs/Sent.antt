@@ -1,6 +1,5 @@
 -- Which controller a number has after an event, and which messages are new. Assumes nothing.
 use Prim.Native.Nat.{ℕ}
-use native.Mathlib.Omega.{arith}
 use mathlib.Core.Path.{_≡_, refl, sym, ap, subst, _∙_}
 use mathlib.Core.List.{List, List·Memᴰ, List·Memᴰ·head, List·Memᴰ·tail, List·Memᴰ·cases-cons}
 use mathlib.Core.Logic.{_⊎_, inl, inr, ⊎-elim}
@@ -15,8 +14,10 @@ use Rattle.units.specs.Pick.{pick}
 use Rattle.fields.proofs.Cases.{by-test}
 use Rattle.vote.specs.declared.digest.Digest.{Digest}
 use Rattle.message.specs.declared.head.Head.{Head}
-use Rattle.message.specs.declared.head.Head.the-variants.{Reading, Query, Reply, Advert, Update, Vote, Setpoints, Due, CollectingEnds, VotingEnds, Floor, Start, Refused}
+use Rattle.message.specs.declared.head.Head.the-variants.{Vote, Start}
 use Rattle.message.specs.declared.value.Message.{Message}
+use Rattle.message.specs.View.{asStart}
+use Rattle.message.proofs.Views.{start-seen, by-kind}
 use Rattle.plan.specs.declared.planned.Sent.{Sent}
 use Rattle.plan.specs.declared.planned.Sent.the-variants.{Nothing, One}
 use Rattle.controller.specs.declared.state.Controller.{Controller}
@@ -61,23 +62,11 @@ pub record Risen (s : Numbers) (h : Head) (n : Controller) : Type 0 where
   pub is : n ≡ started s own low .controller
 
 pub risen-by : (s : Numbers) (h : Head) (n : Controller) → rising s h ≡ some n → Risen s h n
-risen-by s (Start own low) n e = from (started s own low .verdict) refl e
+risen-by s h n e = by-kind (λ (k : Head). rising s k ≡ some n → Risen s k n) (λ v. from (v .0) (v .1) (started s (v .0) (v .1) .verdict) refl) (λ k q r. no-one (rw q at r)) (start-seen h) e
   where
-    from : (v : Verdict) → started s own low .verdict ≡ v → begun (started s own low .controller) v ≡ some n → Risen s (Start own low) n
-    from Taken q e = record { own = own; low = low; by = refl; taken = q; is = sym (same-one e) }
-    from (Denied why) q e = no-one e
-risen-by s (Reading label run raw) n e = no-one e
-risen-by s (Query sender label mask) n e = no-one e
-risen-by s (Reply sender label mask) n e = no-one e
-risen-by s (Advert sender state) n e = no-one e
-risen-by s (Update sender state) n e = no-one e
-risen-by s (Vote sender label digest) n e = no-one e
-risen-by s (Setpoints sender label digest) n e = no-one e
-risen-by s (Due label) n e = no-one e
-risen-by s (CollectingEnds label) n e = no-one e
-risen-by s (VotingEnds label) n e = no-one e
-risen-by s (Floor label) n e = no-one e
-risen-by s (Refused number) n e = no-one e
+    from : (own : ℕ) (low : RoundLabel) (v : Verdict) → started s own low .verdict ≡ v → begun (started s own low .controller) v ≡ some n → Risen s (Start own low) n
+    from own low Taken q e = record { own = own; low = low; by = refl; taken = q; is = sym (same-one e) }
+    from own low (Denied why) q e = no-one e
 
 -- ---- the messages
 -- a message that a step has sent
@@ -127,16 +116,5 @@ module _ (s : Numbers) (r : Answer) (old : List Message) where
 
 -- ---- B or another message
 pub start-or-not : (h : Head) → ((own : ℕ) × (floor : RoundLabel) × (h ≡ Start own floor)) ⊎ NoStart h
-start-or-not (Reading label run raw) = inr (λ o f e. let z : _≡_ {A = ℕ} 0 1 = cc in absurd (omega arith))
-start-or-not (Query sender label mask) = inr (λ o f e. let z : _≡_ {A = ℕ} 0 1 = cc in absurd (omega arith))
-start-or-not (Reply sender label mask) = inr (λ o f e. let z : _≡_ {A = ℕ} 0 1 = cc in absurd (omega arith))
-start-or-not (Advert sender state) = inr (λ o f e. let z : _≡_ {A = ℕ} 0 1 = cc in absurd (omega arith))
-start-or-not (Update sender state) = inr (λ o f e. let z : _≡_ {A = ℕ} 0 1 = cc in absurd (omega arith))
-start-or-not (Vote sender label digest) = inr (λ o f e. let z : _≡_ {A = ℕ} 0 1 = cc in absurd (omega arith))
-start-or-not (Setpoints sender label digest) = inr (λ o f e. let z : _≡_ {A = ℕ} 0 1 = cc in absurd (omega arith))
-start-or-not (Due label) = inr (λ o f e. let z : _≡_ {A = ℕ} 0 1 = cc in absurd (omega arith))
-start-or-not (CollectingEnds label) = inr (λ o f e. let z : _≡_ {A = ℕ} 0 1 = cc in absurd (omega arith))
-start-or-not (VotingEnds label) = inr (λ o f e. let z : _≡_ {A = ℕ} 0 1 = cc in absurd (omega arith))
-start-or-not (Floor label) = inr (λ o f e. let z : _≡_ {A = ℕ} 0 1 = cc in absurd (omega arith))
-start-or-not (Start own floor) = inl (own, floor, refl)
-start-or-not (Refused number) = inr (λ o f e. let z : _≡_ {A = ℕ} 0 1 = cc in absurd (omega arith))
+start-or-not h =
+    by-kind (λ (k : Head). ((own : ℕ) × (floor : RoundLabel) × (k ≡ Start own floor)) ⊎ NoStart k) (λ v. inl (v .0, v .1, refl)) (λ k q. inr (λ o f e. absurd (Option·none-ne-some (o, f) (sym q ∙ ap asStart e)))) (start-seen h)

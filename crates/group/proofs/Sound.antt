@@ -1,6 +1,5 @@
 -- WHAT EVERY CONTROLLER HOLDS AND EVERY MESSAGE SAYS IS TRUE OF THE WHOLE RUN: the one reading, the released votes, the one state of a label. Assumes nothing beyond the premises.
 use Prim.Native.Nat.{ℕ, _≤_, _<_}
-use native.Mathlib.Omega.{arith}
 use mathlib.Core.Path.{_≡_, refl, sym, ap, subst, _∙_}
 use mathlib.Core.Bool.{Bool, true, true≢false}
 use mathlib.Core.List.{List, List·Memᴰ, List·Memᴰ·not-nil}
@@ -24,6 +23,8 @@ use Rattle.message.specs.declared.head.Head.{Head}
 use Rattle.message.specs.declared.head.Head.the-variants.{Reading, Reply, Update, Vote, Setpoints}
 use Rattle.message.specs.declared.value.Message.{Message}
 use Rattle.message.specs.Message.{messageFits}
+use Rattle.message.specs.View.{isTelling}
+use Rattle.fields.proofs.Cases.{absurd-by}
 use Rattle.plan.specs.Votes.{ownDigest}
 use Rattle.controller.specs.declared.state.Controller.{Controller}
 use Rattle.controller.specs.declared.step.Answer.{Answer}
@@ -42,8 +43,8 @@ use Rattle.controller_laws.specs.Sendings.{IsSent}
 use Rattle.controller_laws.proofs.Changes.{readings-from, votes-from, no-vote}
 use Rattle.controller_laws.proofs.Held.{merged-place}
 use Rattle.controller_laws.proofs.Outcomes.{sent-by, sent-head, state-by}
-use Rattle.group.specs.World.{World, hand, store, crash, withUp, rising, answered, handed}
-use Rattle.group.specs.Premises.{Meters, Released, Telling, Enough, here, next, Run}
+use Rattle.group.specs.World.{here, next, World, hand, store, crash, withUp, rising, answered, handed}
+use Rattle.group.specs.Premises.{Meters, Released, Enough, Run}
 use Rattle.group.specs.Demand.{Issued, Canon, at-start, of-issued, Right, WonBy}
 use Rattle.group.proofs.Computing.{chosen-state, issued-state, issued-targets}
 use Rattle.group.proofs.Later.{after-keeps}
@@ -157,23 +158,23 @@ module _ (s : Numbers) (meters : Meters) (sent : List Message) (lines : (x : Mes
         ∙ ap (λ (t : Bool). mergedAt t (getD (n .readings) i 0) (getD (replicate 16 0) i 0)) o
         ∙ ap (λ (x : Controller). getD (x .readings) i 0) e ∙ f .reads i k (and-right (inMask asked i) _ (sym (in-and asked (c .held) i) ∙ o))
         ∙ ap (λ (x : RoundLabel). meters x i) cc
-    said-readings (query e) j l mask q i k p = let z : _≡_ {A = ℕ} 0 1 = cc in absurd (omega arith)
-    said-readings (advert e) j l mask q i k p = let z : _≡_ {A = ℕ} 0 1 = cc in absurd (omega arith)
-    said-readings (update e) j l mask q i k p = let z : _≡_ {A = ℕ} 0 1 = cc in absurd (omega arith)
-    said-readings (floor e) j l mask q i k p = let z : _≡_ {A = ℕ} 0 1 = cc in absurd (omega arith)
-    said-readings (vote e z) j l mask q i k p = let z : _≡_ {A = ℕ} 0 1 = cc in absurd (omega arith)
-    said-readings (setpoints t) j l mask q i k p = let z : _≡_ {A = ℕ} 0 1 = cc in absurd (omega arith)
+    said-readings (query e) j l mask q i k p = absurd-by (cc)
+    said-readings (advert e) j l mask q i k p = absurd-by (cc)
+    said-readings (update e) j l mask q i k p = absurd-by (cc)
+    said-readings (floor e) j l mask q i k p = absurd-by (cc)
+    said-readings (vote e z) j l mask q i k p = absurd-by (cc)
+    said-readings (setpoints t) j l mask q i k p = absurd-by (cc)
 
     -- U that goes out has the state of its state label
     said-state : {head : Head} → SentBy s c (a .head) n head → (j : ℕ) (l : StateLabel) → head ≡ Update j l → Can l (sentMessage s n head head .estimates)
     unfolding sentMessage
     said-state (update e) j l q = canon-as (let z : c .state ≡ l = cc in z) (ap (λ (x : Controller). x .estimates) (sym e)) (f .state)
-    said-state (query e) j l q = let z : _≡_ {A = ℕ} 0 1 = cc in absurd (omega arith)
-    said-state (reply asked e) j l q = let z : _≡_ {A = ℕ} 0 1 = cc in absurd (omega arith)
-    said-state (advert e) j l q = let z : _≡_ {A = ℕ} 0 1 = cc in absurd (omega arith)
-    said-state (floor e) j l q = let z : _≡_ {A = ℕ} 0 1 = cc in absurd (omega arith)
-    said-state (vote e z) j l q = let z : _≡_ {A = ℕ} 0 1 = cc in absurd (omega arith)
-    said-state (setpoints t) j l q = let z : _≡_ {A = ℕ} 0 1 = cc in absurd (omega arith)
+    said-state (query e) j l q = absurd-by (cc)
+    said-state (reply asked e) j l q = absurd-by (cc)
+    said-state (advert e) j l q = absurd-by (cc)
+    said-state (floor e) j l q = absurd-by (cc)
+    said-state (vote e z) j l q = absurd-by (cc)
+    said-state (setpoints t) j l q = absurd-by (cc)
 
     -- S that goes out is what it must be
     said-issue : {head : Head} → SentBy s c (a .head) n head → (j : ℕ) (l : RoundLabel) (d : Digest) → head ≡ Setpoints j l d → Right s meters sent l d (sentMessage s n head head .targets)
@@ -182,12 +183,12 @@ module _ (s : Numbers) (meters : Meters) (sent : List Message) (lines : (x : Mes
         let x : c .label ≡ l = cc in
         let y : chosen ≡ d = cc in
         subst (λ (k : RoundLabel). Right s meters sent k d (setPoints s (n .estimates))) x (subst (λ (k : Digest). Right s meters sent (c .label) k (setPoints s (n .estimates))) y (settled-right chosen t))
-    said-issue (query e) j l d q = let z : _≡_ {A = ℕ} 0 1 = cc in absurd (omega arith)
-    said-issue (reply asked e) j l d q = let z : _≡_ {A = ℕ} 0 1 = cc in absurd (omega arith)
-    said-issue (advert e) j l d q = let z : _≡_ {A = ℕ} 0 1 = cc in absurd (omega arith)
-    said-issue (update e) j l d q = let z : _≡_ {A = ℕ} 0 1 = cc in absurd (omega arith)
-    said-issue (floor e) j l d q = let z : _≡_ {A = ℕ} 0 1 = cc in absurd (omega arith)
-    said-issue (vote e z) j l d q = let z : _≡_ {A = ℕ} 0 1 = cc in absurd (omega arith)
+    said-issue (query e) j l d q = absurd-by (cc)
+    said-issue (reply asked e) j l d q = absurd-by (cc)
+    said-issue (advert e) j l d q = absurd-by (cc)
+    said-issue (update e) j l d q = absurd-by (cc)
+    said-issue (floor e) j l d q = absurd-by (cc)
+    said-issue (vote e z) j l d q = absurd-by (cc)
 
     -- what goes out is true
     says-on : (x : Message) → Fresh s (stepped s c a) x → Says x
@@ -213,9 +214,9 @@ module _ (s : Numbers) (meters : Meters) (sent : List Message) (lines : (x : Mes
   heard w o sub i a p =
       record {
         reading = p .one-reading;
-        readings = λ j label mask e. o .said a (p .not-made-up (subst Telling (sym e) tt)) .readings j label mask e;
-        state = λ j label e. o .said a (p .not-made-up (subst Telling (sym e) tt)) .state j label e;
-        vote = λ j label d e. record { line = a; among = sub a (p .not-made-up (subst Telling (sym e) tt)); said = e };
+        readings = λ j label mask e. o .said a (p .not-made-up (ap isTelling e)) .readings j label mask e;
+        state = λ j label e. o .said a (p .not-made-up (ap isTelling e)) .state j label e;
+        vote = λ j label d e. record { line = a; among = sub a (p .not-made-up (ap isTelling e)); said = e };
       }
 
   sound-put : (w : World) → Sound w → (i : ℕ) (u : Option Controller) → ((n : Controller) → u ≡ some n → Fine n) → Sound (withUp w i u)

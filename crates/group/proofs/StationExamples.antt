@@ -13,15 +13,14 @@ use Rattle.session.specs.Booting.{led, Settles}
 use Rattle.session.specs.Turn.{coreStart}
 use Rattle.session.proofs.Booting.{settings-lead}
 use Rattle.group.specs.Premises.{Meters}
-use Rattle.group.specs.World.{put}
-use Rattle.group.specs.Wire.{Wire, silent, Happening, afterwards, OnLine, OnwardLines}
-use Rattle.group.specs.Wire as Lines
-use Rattle.group.specs.Stations.{Stations, still, hand, store, crash, boot, turned, later, wireIn, Asked, Booted, OnwardStations, here, next}
+use Rattle.group.specs.World.{empty, EventOf, hand, store, crash, put, On, here, next}
+use Rattle.group.specs.Wire.{Wire, afterwards, KeptLine, OnwardLines}
+use Rattle.group.specs.Stations.{Stations, line, boot, turned, later, wireIn, Asked, Booted, OnwardStations}
 use Rattle.group.proofs.Sent.{put-there, put-same}
-use Rattle.group.proofs.Stations.{FineIn, follows, fallen, boot-wire, spoken-still, turned-wire}
+use Rattle.group.proofs.Stations.{FineIn, follows, fallen, boot-wire, spoken-none, turned-wire}
 
 -- ---- a run over lines, by stations
-crash-none : (s : Numbers) (w : Wire) (i : ℕ) → w .up i ≡ none → afterwards s w (Lines.crash i) ≡ w
+crash-none : (s : Numbers) (w : Wire) (i : ℕ) → w .up i ≡ none → afterwards s w (crash i) ≡ w
 crash-none s w i e = λ k.
     record { up = λ j. (ap (λ (x : Option Controller). put (w .up) i x j) (sym e) ∙ put-same (w .up) i j) k; sent = w .sent; stored = w .stored; confirmed = w .confirmed }
 
@@ -46,19 +45,19 @@ module _ (t : Settings) (fit : settingsFit t ≡ true) (meters : Meters) where
   -- stations that keep the premises, and whose wire is x
   pub record Stood (x : Wire) : Type 0 where
     pub stations : Stations
-    pub run : OnwardStations s meters still stations
+    pub run : OnwardStations s meters empty stations
     pub wire : wireIn s stations ≡ x
 
-  -- a number whose program runs takes the line
-  taken-in : {x : Wire} (b : Stood x) (i : ℕ) (line : List ℕ) (c : Core) → b .stations .up i ≡ some c → OnLine s meters x (Lines.hand i line) → Stood (afterwards s x (Lines.hand i line))
-  taken-in b i line c u k =
+  -- a number whose program runs takes the ln
+  taken-in : {x : Wire} (b : Stood x) (i : ℕ) (ln : List ℕ) (c : Core) → b .stations .up i ≡ some c → KeptLine s meters x i ln → Stood (afterwards s x (hand i ln))
+  taken-in b i ln c u k =
       let w = b .stations in
       let f = follows s meters (λ j. tt) (b .run) .1 i in
-      let a : Asked s meters w i line (some c) = subst (λ (y : Wire). OnLine s meters y (Lines.hand i line)) (sym (b .wire)) k in
+      let a : Asked s meters w i ln (some c) = subst (λ (y : Wire). KeptLine s meters y i ln) (sym (b .wire)) k in
       record {
-        stations = later w (hand i line);
-        run = next (b .run) (hand i line) (subst (Asked s meters w i line) (sym u) a);
-        wire = ap (λ (y : Option Core). wireIn s (turned w i line y)) u ∙ sym (turned-wire s meters w i line c u (subst (FineIn s) u f)) ∙ ap (λ (y : Wire). afterwards s y (Lines.hand i line)) (b .wire);
+        stations = later w (hand i (line ln));
+        run = next (b .run) (hand i (line ln)) (subst (Asked s meters w i ln) (sym u) a);
+        wire = ap (λ (y : Option Core). wireIn s (turned w i ln y)) u ∙ sym (turned-wire s meters w i ln c u (subst (FineIn s) u f)) ∙ ap (λ (y : Wire). afterwards s y (hand i ln)) (b .wire);
       }
 
   -- one that is down is booted
@@ -66,27 +65,27 @@ module _ (t : Settings) (fit : settingsFit t ≡ true) (meters : Meters) where
   risen b i u =
       let w = b .stations in
       record {
-        stations = later w (boot i (booting .lines));
-        run = next (b .run) (boot i (booting .lines)) booted;
+        stations = later w (hand i (boot (booting .lines)));
+        run = next (b .run) (hand i (boot (booting .lines))) booted;
         wire = sym (boot-wire s meters w i (booting .lines) booted) ∙ crash-none s (wireIn s w) i (rw u) ∙ b .wire;
       }
 
-  handed-on : {x : Wire} (b : Stood x) (i : ℕ) (line : List ℕ) (y : Option Core) → b .stations .up i ≡ y → OnLine s meters x (Lines.hand i line) → Stood (afterwards s x (Lines.hand i line))
-  handed-on b i line (some c) u k = taken-in b i line c u k
-  handed-on b i line none u k = taken-in (risen b i u) i line fresh (put-there (b .stations .up) i (some fresh)) k
+  handed-on : {x : Wire} (b : Stood x) (i : ℕ) (ln : List ℕ) (y : Option Core) → b .stations .up i ≡ y → KeptLine s meters x i ln → Stood (afterwards s x (hand i ln))
+  handed-on b i ln (some c) u k = taken-in b i ln c u k
+  handed-on b i ln none u k = taken-in (risen b i u) i ln fresh (put-there (b .stations .up) i (some fresh)) k
 
-  happened : {x : Wire} → Stood x → (e : Happening) → OnLine s meters x e → Stood (afterwards s x e)
-  happened b (Lines.hand i line) k = handed-on b i line (b .stations .up i) refl k
-  happened b (Lines.store i label) k =
-      record { stations = later (b .stations) (store i label); run = next (b .run) (store i label) tt; wire = ap (λ (y : Wire). afterwards s y (Lines.store i label)) (b .wire) }
-  happened b (Lines.crash i) k =
+  happened : {x : Wire} → Stood x → (e : EventOf (List ℕ)) → On (KeptLine s meters) x e → Stood (afterwards s x e)
+  happened b (hand i ln) k = handed-on b i ln (b .stations .up i) refl k
+  happened b (store i label) k =
+      record { stations = later (b .stations) (store i label); run = next (b .run) (store i label) tt; wire = ap (λ (y : Wire). afterwards s y (store i label)) (b .wire) }
+  happened b (crash i) k =
       record {
         stations = later (b .stations) (crash i);
         run = next (b .run) (crash i) tt;
-        wire = sym (fallen s meters (b .stations) i none (b .stations .sent) refl refl) ∙ ap (λ (y : Wire). afterwards s y (Lines.crash i)) (b .wire);
+        wire = sym (fallen s meters (b .stations) i none (b .stations .sent) refl refl) ∙ ap (λ (y : Wire). afterwards s y (crash i)) (b .wire);
       }
 
   -- EVERY RUN OVER LINES IS ONE OF STATIONS
-  pub stood : {x : Wire} → OnwardLines s meters silent x → Stood x
-  stood Lines.here = record { stations = still; run = here; wire = spoken-still s meters }
-  stood (Lines.next on e k) = happened (stood on) e k
+  pub stood : {x : Wire} → OnwardLines s meters empty x → Stood x
+  stood here = record { stations = empty; run = here; wire = spoken-none s meters }
+  stood (next on e k) = happened (stood on) e k

@@ -39,11 +39,11 @@ use Rattle.session.specs.Turn.{Turn, numbersIn, groupIn, coreStart, runningWith
 use Rattle.session.proofs.Demand2.{turn-steps}
 use Rattle.session.proofs.Fits.{start-fits, turn-fits}
 use Rattle.session.proofs.Program.{first-start}
-use Rattle.group.specs.World.{Mark, put, confirms, rising}
+use Rattle.group.specs.World.{Mark, empty, EventOf, hand, store, crash, put, On, here, next, confirms, rising}
 use Rattle.group.specs.Premises.{Meters}
-use Rattle.group.specs.Wire.{Wire, silent, takes, afterwards, OnwardLines, Demand3Lines}
-use Rattle.group.specs.Wire as Lines
-use Rattle.group.specs.Stations.{Stations, still, Doing, hand, store, crash, boot, puts, confirming, turned, later, controllerAt, controllerIn, spoken, wireIn, Asked, Booted, OnStation, OnwardStations, here, next, Demand3Stations}
+use Rattle.group.specs.Wire.{Wire, takes, hears as hears-line, afterwards, OnwardLines, Demand3Lines}
+use Rattle.group.specs.Stations.{Stations, Given, line, boot, puts, confirming, turned, later, controllerAt, controllerIn, spoken, wireIn, Asked, Booted, KeptGiven, OnwardStations, Demand3Stations}
+use Rattle.group.proofs.Later.{continued}
 use Rattle.group.proofs.Sent.{put-same}
 use Rattle.group.proofs.Texts.{in-spoken, spoken-x, quiet-sent, spoken-step, waits-way, turn-text, turn-whole, spoken-text, puts-both}
 use Rattle.group.proofs.Wire.{demand3-lines}
@@ -56,54 +56,54 @@ Past Running = Unit {0}
 Past Ended = ⊥
 
 abbrev sureOf : ℕ → Core → List ℕ → List Mark
-sureOf i c line = confirming i (saidBy c line .head) (readLine (groupIn c) line .verdict) (c .stage)
+sureOf i c ln = confirming i (saidBy c ln .head) (readLine (groupIn c) ln .verdict) (c .stage)
 
-data Way (c : Core) (line : List ℕ) : Type 0 where
-  refuses : (why : Refusal) → turn c line ≡ refusing c why → ((i : ℕ) → sureOf i c line ≡ []) → ((w : Wire) (i : ℕ) → w .up i ≡ controllerIn (some c) → afterwards (numbersIn c) w (Lines.hand i line) ≡ w)
-      → Way c line
-  rises : (own : ℕ) (floor : RoundLabel) → c .stage ≡ Waiting → readLine (groupIn c) line .verdict ≡ Taken → saidBy c line .head ≡ Start own floor → Way c line
-  steps : c .stage ≡ Running → readLine (groupIn c) line .verdict ≡ Taken → Way c line
+data Way (c : Core) (ln : List ℕ) : Type 0 where
+  refuses : (why : Refusal) → turn c ln ≡ refusing c why → ((i : ℕ) → sureOf i c ln ≡ []) → ((w : Wire) (i : ℕ) → w .up i ≡ controllerIn (some c) → afterwards (numbersIn c) w (hand i ln) ≡ w)
+      → Way c ln
+  rises : (own : ℕ) (floor : RoundLabel) → c .stage ≡ Waiting → readLine (groupIn c) ln .verdict ≡ Taken → saidBy c ln .head ≡ Start own floor → Way c ln
+  steps : c .stage ≡ Running → readLine (groupIn c) ln .verdict ≡ Taken → Way c ln
 
-wait-turn : (c : Core) (line : List ℕ) (stage : Stage) (v : Verdict) → stage ≡ Waiting → readLine (groupIn c) line .verdict ≡ v
-    → turnBy stepping c line stage ≡ hears (λ a. waitsFor c (a .head)) c (saidBy c line) v
+wait-turn : (c : Core) (ln : List ℕ) (stage : Stage) (v : Verdict) → stage ≡ Waiting → readLine (groupIn c) ln .verdict ≡ v
+    → turnBy stepping c ln stage ≡ hears (λ a. waitsFor c (a .head)) c (saidBy c ln) v
 unfolding turnBy
-wait-turn c line stage v e ev = rw e (ap (hears (λ a. waitsFor c (a .head)) c (saidBy c line)) ev)
+wait-turn c ln stage v e ev = rw e (ap (hears (λ a. waitsFor c (a .head)) c (saidBy c ln)) ev)
 
-run-turn : (c : Core) (line : List ℕ) (stage : Stage) (v : Verdict) → stage ≡ Running → readLine (groupIn c) line .verdict ≡ v
-    → turnBy stepping c line stage ≡ hears (stepping c) c (saidBy c line) v
+run-turn : (c : Core) (ln : List ℕ) (stage : Stage) (v : Verdict) → stage ≡ Running → readLine (groupIn c) ln .verdict ≡ v
+    → turnBy stepping c ln stage ≡ hears (stepping c) c (saidBy c ln) v
 unfolding turnBy
-run-turn c line stage v e ev = rw e (ap (hears (stepping c) c (saidBy c line)) ev)
+run-turn c ln stage v e ev = rw e (ap (hears (stepping c) c (saidBy c ln)) ev)
 
 unsure : (i : ℕ) (h : Head) (v : Verdict) (stage : Stage) → stage ≡ Waiting → confirming i h v stage ≡ []
 unsure i h v stage e = rw e
 
-hears-as : (s : Numbers) (w : Wire) (i : ℕ) (a : Message) (v : Verdict) (u : Option Controller) → v ≡ Taken → w .up i ≡ u → Lines.hears s w i a v ≡ takes s w i a u
+hears-as : (s : Numbers) (w : Wire) (i : ℕ) (a : Message) (v : Verdict) (u : Option Controller) → v ≡ Taken → w .up i ≡ u → hears-line s w i a v ≡ takes s w i a u
 hears-as s w i a v u e q = rw (e, q)
 
 -- a message that is not B, to a number whose program waits for one
-unread : (s : Numbers) (w : Wire) (i : ℕ) (a : Message) (v : Verdict) → v ≡ Taken → w .up i ≡ none → rising s (a .head) ≡ none → Lines.hears s w i a v ≡ w
+unread : (s : Numbers) (w : Wire) (i : ℕ) (a : Message) (v : Verdict) → v ≡ Taken → w .up i ≡ none → rising s (a .head) ≡ none → hears-line s w i a v ≡ w
 unread s w i a v e n r =
     hears-as s w i a v none e n
     ∙ (λ k. record { up = λ j. (ap (λ (x : Option Controller). put (w .up) i x j) (r ∙ sym n) ∙ put-same (w .up) i j) k; sent = w .sent; stored = w .stored; confirmed = w .confirmed })
 
-way : (c : Core) (line : List ℕ) (stage : Stage) → c .stage ≡ stage → Past stage → (v : Verdict) → readLine (groupIn c) line .verdict ≡ v → Way c line
+way : (c : Core) (ln : List ℕ) (stage : Stage) → c .stage ≡ stage → Past stage → (v : Verdict) → readLine (groupIn c) ln .verdict ≡ v → Way c ln
 unfolding hears
-way c line AtSettings e p v ev = absurd p
-way c line Waiting e p Taken ev =
-    elim (waits-way c (saidBy c line .head)) [
-      | inl q ↦ refuses Closed (wait-turn c line (c .stage) Taken e ev ∙ q .0) (λ i. unsure i (saidBy c line .head) (readLine (groupIn c) line .verdict) (c .stage) e)
-          (λ w i u. unread (numbersIn c) w i (saidBy c line) _ ev (u ∙ ap (controllerAt c) e) (q .1))
+way c ln AtSettings e p v ev = absurd p
+way c ln Waiting e p Taken ev =
+    elim (waits-way c (saidBy c ln .head)) [
+      | inl q ↦ refuses Closed (wait-turn c ln (c .stage) Taken e ev ∙ q .0) (λ i. unsure i (saidBy c ln .head) (readLine (groupIn c) ln .verdict) (c .stage) e)
+          (λ w i u. unread (numbersIn c) w i (saidBy c ln) _ ev (u ∙ ap (controllerAt c) e) (q .1))
       | inr q ↦ rises (q .0) (q .1) e ev (q .2)
     ]
-way c line Waiting e p (Denied why) ev =
-    refuses why (wait-turn c line (c .stage) (Denied why) e ev) (λ i. unsure i (saidBy c line .head) (readLine (groupIn c) line .verdict) (c .stage) e)
-    (λ w i u. ap (Lines.hears (numbersIn c) w i (saidBy c line)) ev)
-way c line Running e p Taken ev = steps e ev
-way c line Running e p (Denied why) ev =
-    refuses why (run-turn c line (c .stage) (Denied why) e ev)
-    (λ i. ap (confirming i (saidBy c line .head) (readLine (groupIn c) line .verdict)) e ∙ ap (λ (x : Verdict). confirming i (saidBy c line .head) x Running) ev)
-    (λ w i u. ap (Lines.hears (numbersIn c) w i (saidBy c line)) ev)
-way c line Ended e p v ev = absurd p
+way c ln Waiting e p (Denied why) ev =
+    refuses why (wait-turn c ln (c .stage) (Denied why) e ev) (λ i. unsure i (saidBy c ln .head) (readLine (groupIn c) ln .verdict) (c .stage) e)
+    (λ w i u. ap (hears-line (numbersIn c) w i (saidBy c ln)) ev)
+way c ln Running e p Taken ev = steps e ev
+way c ln Running e p (Denied why) ev =
+    refuses why (run-turn c ln (c .stage) (Denied why) e ev)
+    (λ i. ap (confirming i (saidBy c ln .head) (readLine (groupIn c) ln .verdict)) e ∙ ap (λ (x : Verdict). confirming i (saidBy c ln .head) x Running) ev)
+    (λ w i u. ap (hears-line (numbersIn c) w i (saidBy c ln)) ev)
+way c ln Ended e p v ev = absurd p
 
 -- ---- what holds of every program that runs
 pub record Fine (s : Numbers) (c : Core) : Type 0 where
@@ -118,17 +118,17 @@ FineIn s (some c) = Fine s c
 abbrev pub Sound : Numbers → Stations → Type 0
 Sound s w = (i : ℕ) → FineIn s (w .up i)
 
-way-of : (c : Core) (line : List ℕ) → Past (c .stage) → Way c line
-way-of c line p = way c line (c .stage) refl p (readLine (groupIn c) line .verdict) refl
+way-of : (c : Core) (ln : List ℕ) → Past (c .stage) → Way c ln
+way-of c ln p = way c ln (c .stage) refl p (readLine (groupIn c) ln .verdict) refl
 
 -- past its settings a program keeps them
 abbrev Kept : Core → Turn → Type 0
 Kept c t = (t .next .settling ≡ c .settling) × Past (t .next .stage)
 
-next-past : (c : Core) (line : List ℕ) → Past (c .stage) → Way c line → Kept c (turn c line)
-next-past c line p (refuses why e q r) = subst (Kept c) (sym e) (refl, p)
-next-past c line p (rises own floor s v e) = subst (Kept c) (sym (first-start c line own floor s v e)) (refl, tt)
-next-past c line p (steps s v) = subst (Kept c) (sym (turn-steps c line s v)) (refl, tt)
+next-past : (c : Core) (ln : List ℕ) → Past (c .stage) → Way c ln → Kept c (turn c ln)
+next-past c ln p (refuses why e q r) = subst (Kept c) (sym e) (refl, p)
+next-past c ln p (rises own floor s v e) = subst (Kept c) (sym (first-start c ln own floor s v e)) (refl, tt)
+next-past c ln p (steps s v) = subst (Kept c) (sym (turn-steps c ln s v)) (refl, tt)
 
 pub led-past : (c : Core) (ls : List (List ℕ)) → Past (c .stage) → (led c ls .settling ≡ c .settling) × Past (led c ls .stage)
 unfolding led
@@ -138,10 +138,10 @@ led-past c (l ∷ ls) p =
     let r = led-past (turn c l .next) ls (n .1) in (r .0 ∙ n .0, r .1)
 
 -- a program that runs a controller goes on with one
-runs-on : (c : Core) (line : List ℕ) → c .stage ≡ Running → Way c line → turn c line .next .stage ≡ Running
-runs-on c line e (refuses why q r t) = ap (λ (t : Turn). t .next .stage) q ∙ e
-runs-on c line e (rises own floor s v q) = let z : Running ≡ Waiting = sym e ∙ s in absurd-by (cc)
-runs-on c line e (steps s v) = ap (λ (t : Turn). t .next .stage) (turn-steps c line s v)
+runs-on : (c : Core) (ln : List ℕ) → c .stage ≡ Running → Way c ln → turn c ln .next .stage ≡ Running
+runs-on c ln e (refuses why q r t) = ap (λ (t : Turn). t .next .stage) q ∙ e
+runs-on c ln e (rises own floor s v q) = let z : Running ≡ Waiting = sym e ∙ s in absurd-by (cc)
+runs-on c ln e (steps s v) = ap (λ (t : Turn). t .next .stage) (turn-steps c ln s v)
 
 led-runs : (c : Core) (ls : List (List ℕ)) → c .stage ≡ Running → led c ls .stage ≡ Running
 unfolding led
@@ -161,10 +161,10 @@ boot-spoken s c (l ∷ ls) old e =
     ∙ boot-spoken s (turn c l .next) ls (puts (linesOf u) old) e
     ∙ spoken-text c s u old n (turn-text c l)
 
-fine-next : (s : Numbers) (c : Core) (line : List ℕ) → Fine s c → Fine s (turn c line .next)
-fine-next s c line f =
-    let n = next-past c line (f .past) (way-of c line (f .past)) in
-    record { settings = ap (λ (x : Settling). x .settings .numbers) (n .0) ∙ f .settings; fits = turn-fits c line (f .fits); past = n .1 }
+fine-next : (s : Numbers) (c : Core) (ln : List ℕ) → Fine s c → Fine s (turn c ln .next)
+fine-next s c ln f =
+    let n = next-past c ln (f .past) (way-of c ln (f .past)) in
+    record { settings = ap (λ (x : Settling). x .settings .numbers) (n .0) ∙ f .settings; fits = turn-fits c ln (f .fits); past = n .1 }
 
 led-fits : (c : Core) (ls : List (List ℕ)) → CoreFits c → CoreFits (led c ls)
 unfolding led
@@ -190,7 +190,7 @@ start-head s h own floor e f =
     let g : headFits s (Start own floor) ≡ true = subst (λ (x : Head). headFits s x ≡ true) e f in
     (and-left (ltb own (s .g)) (floorFits floor) g, and-right (ltb own (s .g)) (floorFits floor) g)
 
-module _ (w : Stations) (i : ℕ) (line : List ℕ) (c : Core) (u : w .up i ≡ some c) where
+module _ (w : Stations) (i : ℕ) (ln : List ℕ) (c : Core) (u : w .up i ≡ some c) where
   abbrev s : Numbers
   s = numbersIn c
 
@@ -213,44 +213,40 @@ module _ (w : Stations) (i : ℕ) (line : List ℕ) (c : Core) (u : w .up i ≡ 
       sym (wire-made (refusing c why) [] (controllerIn (w .up i)) (spoken s (w .sent)) (ap controllerIn (sym u)) (spoken-x s why (w .sent))
       ∙ (λ k. record { up = λ j. put-same (wireIn s w .up) i j k; sent = spoken s (w .sent); stored = w .stored; confirmed = w .confirmed }))
 
-  wire-turn : CoreFits c → Way c line → afterwards s (wireIn s w) (Lines.hand i line) ≡ wireIn s (made (turn c line) (sureOf i c line))
+  wire-turn : CoreFits c → Way c ln → afterwards s (wireIn s w) (hand i ln) ≡ wireIn s (made (turn c ln) (sureOf i c ln))
   wire-turn f (refuses why e q r) = r (wireIn s w) i (ap controllerIn u) ∙ no-step why ∙ sym (λ t. wireIn s (made (e t) (q i t)))
   wire-turn f (rises own floor st v e) =
-      let m = in-range (groupIn c) (saidBy c line) (read-fits (groupIn c) line v) .head in
-      let h = start-head (groupIn c) (saidBy c line .head) own floor e m in
+      let m = in-range (groupIn c) (saidBy c ln) (read-fits (groupIn c) ln v) .head in
+      let h = start-head (groupIn c) (saidBy c ln .head) own floor e m in
       let g : numbersFit s ≡ true = subst (λ (x : Stage). FitsAt c x) st f in
-      let r : rising s (saidBy c line .head) ≡ some (startOf s own floor) = ap (rising s) e ∙ start-rises s own floor g (h .0) (h .1) in
-      let z : sureOf i c line ≡ [] = ap (confirming i (saidBy c line .head) (readLine (groupIn c) line .verdict)) st in
-      hears-as s (wireIn s w) i (saidBy c line) _ none v (ap controllerIn u ∙ ap (controllerAt c) st)
-      ∙ sym ((λ t. wireIn s (made (first-start c line own floor st v e t) (z t)))
-      ∙ wire-made (quiet (runningWith c (startOf s own floor))) [] (rising s (saidBy c line .head)) (spoken s (w .sent)) (sym r) (quiet-sent s (w .sent)))
+      let r : rising s (saidBy c ln .head) ≡ some (startOf s own floor) = ap (rising s) e ∙ start-rises s own floor g (h .0) (h .1) in
+      let z : sureOf i c ln ≡ [] = ap (confirming i (saidBy c ln .head) (readLine (groupIn c) ln .verdict)) st in
+      hears-as s (wireIn s w) i (saidBy c ln) _ none v (ap controllerIn u ∙ ap (controllerAt c) st)
+      ∙ sym ((λ t. wireIn s (made (first-start c ln own floor st v e t) (z t)))
+      ∙ wire-made (quiet (runningWith c (startOf s own floor))) [] (rising s (saidBy c ln .head)) (spoken s (w .sent)) (sym r) (quiet-sent s (w .sent)))
   wire-turn f (steps st v) =
-      let z : sureOf i c line ≡ confirms i (saidBy c line .head) =
-      ap (confirming i (saidBy c line .head) (readLine (groupIn c) line .verdict)) st ∙ ap (λ (x : Verdict). confirming i (saidBy c line .head) x Running) v in
-      hears-as s (wireIn s w) i (saidBy c line) _ (some (c .controller)) v (ap controllerIn u ∙ ap (controllerAt c) st)
-      ∙ sym ((λ t. wireIn s (made (turn-steps c line st v t) (z t)))
-      ∙ wire-made (answered c (stepBy c line)) (confirms i (saidBy c line .head)) (some (stepBy c line .next)) _ refl (spoken-step s (c .controller) (saidBy c line) (w .sent)))
+      let z : sureOf i c ln ≡ confirms i (saidBy c ln .head) =
+      ap (confirming i (saidBy c ln .head) (readLine (groupIn c) ln .verdict)) st ∙ ap (λ (x : Verdict). confirming i (saidBy c ln .head) x Running) v in
+      hears-as s (wireIn s w) i (saidBy c ln) _ (some (c .controller)) v (ap controllerIn u ∙ ap (controllerAt c) st)
+      ∙ sym ((λ t. wireIn s (made (turn-steps c ln st v t) (z t)))
+      ∙ wire-made (answered c (stepBy c ln)) (confirms i (saidBy c ln .head)) (some (stepBy c ln .next)) _ refl (spoken-step s (c .controller) (saidBy c ln) (w .sent)))
 
 module _ (s : Numbers) (meters : Meters) where
   abbrev Follow : Stations → Stations → Type 0
   Follow w v = OnwardLines s meters (wireIn s w) (wireIn s v) × Sound s v
 
-  joined : {u v w : Wire} → OnwardLines s meters u v → OnwardLines s meters v w → OnwardLines s meters u w
-  joined a Lines.here = a
-  joined a (Lines.next b e k) = Lines.next (joined a b) e k
+  pub turned-wire : (w : Stations) (i : ℕ) (ln : List ℕ) (c : Core) → w .up i ≡ some c → Fine s c → afterwards s (wireIn s w) (hand i ln) ≡ wireIn s (turned w i ln (some c))
+  turned-wire w i ln c u f =
+      subst (λ (n : Numbers). afterwards n (wireIn n w) (hand i ln) ≡ wireIn n (turned w i ln (some c))) (f .settings) (wire-turn w i ln c u (f .fits) (way-of c ln (f .past)))
 
-  pub turned-wire : (w : Stations) (i : ℕ) (line : List ℕ) (c : Core) → w .up i ≡ some c → Fine s c → afterwards s (wireIn s w) (Lines.hand i line) ≡ wireIn s (turned w i line (some c))
-  turned-wire w i line c u f =
-      subst (λ (n : Numbers). afterwards n (wireIn n w) (Lines.hand i line) ≡ wireIn n (turned w i line (some c))) (f .settings) (wire-turn w i line c u (f .fits) (way-of c line (f .past)))
-
-  handed : (w : Stations) → Sound s w → (i : ℕ) (line : List ℕ) (x : Option Core) → w .up i ≡ x → FineIn s x → Asked s meters w i line x → Follow w (turned w i line x)
-  handed w g i line none u f k = (Lines.here, g)
-  handed w g i line (some c) u f k =
-      (subst (OnwardLines s meters (wireIn s w)) (turned-wire w i line c u f) (Lines.next Lines.here (Lines.hand i line) k), put-fine s (w .up) i (some (turn c line .next)) g (fine-next s c line f))
+  handed : (w : Stations) → Sound s w → (i : ℕ) (ln : List ℕ) (x : Option Core) → w .up i ≡ x → FineIn s x → Asked s meters w i ln x → Follow w (turned w i ln x)
+  handed w g i ln none u f k = (here, g)
+  handed w g i ln (some c) u f k =
+      (subst (OnwardLines s meters (wireIn s w)) (turned-wire w i ln c u f) (next here (hand i ln) k), put-fine s (w .up) i (some (turn c ln .next)) g (fine-next s c ln f))
 
   -- a crash, or a boot: no controller stands there, and nothing that is read was written
   pub fallen : (w : Stations) (i : ℕ) (x : Option Core) (sent : List (List ℕ)) → controllerIn x ≡ none → spoken s sent ≡ spoken s (w .sent)
-      → _≡_ {A = Wire} (afterwards s (wireIn s w) (Lines.crash i)) (wireIn s (record { up = put (w .up) i x; sent = sent; stored = w .stored; confirmed = w .confirmed }))
+      → _≡_ {A = Wire} (afterwards s (wireIn s w) (crash i)) (wireIn s (record { up = put (w .up) i x; sent = sent; stored = w .stored; confirmed = w .confirmed }))
   fallen w i x sent e q = λ k.
       record {
         up = λ j. sym (put-in (w .up) i x j ∙ ap (λ (y : Option Controller). put (wireIn s w .up) i y j) e) k;
@@ -259,40 +255,40 @@ module _ (s : Numbers) (meters : Meters) where
         confirmed = w .confirmed;
       }
 
-  pub boot-wire : (w : Stations) (i : ℕ) (lines : List (List ℕ)) → Booted s (led coreStart lines) → afterwards s (wireIn s w) (Lines.crash i) ≡ wireIn s (later w (boot i lines))
+  pub boot-wire : (w : Stations) (i : ℕ) (lines : List (List ℕ)) → Booted s (led coreStart lines) → afterwards s (wireIn s w) (crash i) ≡ wireIn s (later w (hand i (boot lines)))
   boot-wire w i lines b =
       fallen w i (some (led coreStart lines)) (puts (linesOf (told coreStart lines)) (w .sent)) (ap (controllerAt (led coreStart lines)) (b .waits)) (boot-spoken s coreStart lines (w .sent) (b .waits))
 
   booted : (lines : List (List ℕ)) → Booted s (led coreStart lines) → Fine s (led coreStart lines)
   booted lines b = record { settings = b .settings; fits = led-fits coreStart lines start-fits; past = subst Past (sym (b .waits)) tt }
 
-  happens : (w : Stations) → Sound s w → (e : Doing) → OnStation s meters w e → Follow w (later w e)
-  happens w g (hand i line) k = handed w g i line (w .up i) refl (g i) k
-  happens w g (store i label) k = (Lines.next Lines.here (Lines.store i label) tt, g)
-  happens w g (crash i) k = (subst (OnwardLines s meters (wireIn s w)) (fallen w i none (w .sent) refl refl) (Lines.next Lines.here (Lines.crash i) tt), put-fine s (w .up) i none g tt)
-  happens w g (boot i lines) b = (
-    subst (OnwardLines s meters (wireIn s w)) (boot-wire w i lines b) (Lines.next Lines.here (Lines.crash i) tt),
+  happens : (w : Stations) → Sound s w → (e : EventOf Given) → On (KeptGiven s meters) w e → Follow w (later w e)
+  happens w g (hand i (line ln)) k = handed w g i ln (w .up i) refl (g i) k
+  happens w g (store i label) k = (next here (store i label) tt, g)
+  happens w g (crash i) k = (subst (OnwardLines s meters (wireIn s w)) (fallen w i none (w .sent) refl refl) (next here (crash i) tt), put-fine s (w .up) i none g tt)
+  happens w g (hand i (boot lines)) b = (
+    subst (OnwardLines s meters (wireIn s w)) (boot-wire w i lines b) (next here (crash i) tt),
     put-fine s (w .up) i (some (led coreStart lines)) g (booted lines b),
   )
 
   pub follows : {w v : Stations} → Sound s w → OnwardStations s meters w v → Follow w v
-  follows g here = (Lines.here, g)
+  follows g here = (here, g)
   follows g (next {v} on e k) =
       let a = follows g on in
-      let b = happens v (a .1) e k in (joined (a .0) (b .0), b .1)
+      let b = happens v (a .1) e k in (continued (a .0) (b .0), b .1)
 
-  pub spoken-still : wireIn s still ≡ silent
+  pub spoken-none : _≡_ {A = Wire} (wireIn s empty) empty
   unfolding spoken
-  spoken-still = refl
+  spoken-none = refl
 
-  lines-demand : {w v : Stations} → OnwardStations s meters still w → OnwardStations s meters w v → Demand3Lines s meters (wireIn s w) (wireIn s v)
+  lines-demand : {w v : Stations} → OnwardStations s meters empty w → OnwardStations s meters w v → Demand3Lines s meters (wireIn s w) (wireIn s v)
   lines-demand {w} {v} run on =
       let a = follows (λ i. tt) run in
       let b = follows (a .1) on in
-      demand3-lines s meters (subst (λ (x : Wire). OnwardLines s meters x (wireIn s w)) spoken-still (a .0)) (b .0)
+      demand3-lines s meters (subst (λ (x : Wire). OnwardLines s meters x (wireIn s w)) spoken-none (a .0)) (b .0)
 
   -- DEMAND 3 OF WHAT STATIONS WRITE: every run of stations that keeps the premises, to w, and however it goes on, to v
-  pub demand3-stations : {w v : Stations} → OnwardStations s meters still w → OnwardStations s meters w v → Demand3Stations s meters w v
+  pub demand3-stations : {w v : Stations} → OnwardStations s meters empty w → OnwardStations s meters w v → Demand3Stations s meters w v
   demand3-stations {w} {v} run on =
       let d = lines-demand run on in
       record {

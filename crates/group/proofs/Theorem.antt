@@ -86,9 +86,9 @@ module _ (s : Numbers) (meters : Meters) where
   demand3-weaker {v = v} run on =
       let all = continued run on in
       record {
-        right = λ x m i label d e. every-right all x (stays-sent on x m) i label d e;
+        right = λ x m i label d e. every-right all x (stays-sent s on x m) i label d e;
         same = λ x y m n i j label d e p q.
-            right-one s meters (v .sent) label d e (x .targets) (y .targets) (every-right all x (stays-sent on x m) i label d p) (every-right all y n j label e q);
+            right-one s meters (v .sent) label d e (x .targets) (y .targets) (every-right all x (stays-sent s on x m) i label d p) (every-right all y n j label e q);
         one = once s meters all .unique;
       }
 

@@ -7,9 +7,9 @@ use mathlib.Core.Path.{_≡_, refl, sym, ap, subst, _∙_}
 use mathlib.Core.Bool.{true, false, _&&_}
 use mathlib.Core.List.{List, [], _∷_, map, List·Memᴰ, List·Memᴰ·head, List·Memᴰ·tail, List·Memᴰ·cases-cons, List·Memᴰ·not-nil}
 use mathlib.Core.Logic.{_⊎_, inl, inr, ⊎-elim, by-cases}
-use lib.Dec.{eqb, leb, ltb}
+use lib.Dec.{eqb, ltb}
 use lib.ListN.{length, getD, take, List·getD-eq-default}
-use borrow.Author.Tests.{eqb-true, eq-eqb, leb-true, ltb-true}
+use borrow.Author.Tests.{eqb-true, eq-eqb, ltb-true}
 use Rattle.units.specs.declared.labels.RoundLabel.{RoundLabel}
 use Rattle.units.specs.declared.settings.Group.{Group}
 use Rattle.units.specs.declared.settings.Numbers.{Numbers}
@@ -31,10 +31,12 @@ use Rattle.vote.specs.Vote.Completes.{done, kept, filled}
 use Rattle.vote.proofs.Answer.{decision-exact}
 use Rattle.vote.proofs.InRange.{seats-length, seats-made, votes-three, votes-made}
 use Rattle.message.specs.declared.head.Head.{Head}
-use Rattle.message.specs.declared.head.Head.the-variants.{Reading, Query, Reply, Advert, Update, Vote, Setpoints, Due, CollectingEnds, VotingEnds, Floor, Start, Refused}
+use Rattle.message.specs.declared.head.Head.the-variants.{Vote}
 use Rattle.message.specs.declared.value.Message.{Message}
 use Rattle.message.specs.Head.{headFits}
 use Rattle.message.specs.Message.{messageFits}
+use Rattle.message.proofs.Views.{vote-seen, by-kind}
+use Rattle.fields.proofs.Cases.{absurd-by}
 use Rattle.controller_laws.proofs.Fits.{told}
 use Rattle.controller_laws.proofs.Ways.{on-pick, same-round}
 use Rattle.controller_laws.proofs.Changes.{not-missing, same-digest}
@@ -56,43 +58,24 @@ group-high s h = group-range s h .controllers .1
 module _ (j : ℕ) (label : RoundLabel) where
   -- what is found is this message's, or was found before
   found-in : (d : Digest) (found : Ballot) (h : Head) → voteIf j label found h ≡ Cast d → (h ≡ Vote j label d) ⊎ (found ≡ Cast d)
-  found-in d found (Vote sender l digest) =
-      on-pick (λ (b : Ballot). b ≡ Cast d → (Vote sender l digest ≡ Vote j label d) ⊎ (found ≡ Cast d)) (eqb sender j && eqb (l .0) (label .0))
-      (λ t e. inl (hit (eqb-true sender j (and-left (eqb sender j) _ t)) (same-round l label (eqb-true _ _ (and-right (eqb sender j) _ t))) (same-digest e))) (λ t e. inr e)
+  found-in d found h =
+      by-kind (λ (k : Head). voteIf j label found k ≡ Cast d → (k ≡ Vote j label d) ⊎ (found ≡ Cast d)) (λ v. of (v .0) (v .1) (v .2)) (λ k q e. inr (rw q at e)) (vote-seen h)
     where
-      hit : sender ≡ j → l ≡ label → digest ≡ d → Vote sender l digest ≡ Vote j label d
-      hit p q r = λ i. Vote (p i) (q i) (r i)
-  found-in d found (Reading l run raw) = λ e. inr e
-  found-in d found (Query sender l mask) = λ e. inr e
-  found-in d found (Reply sender l mask) = λ e. inr e
-  found-in d found (Advert sender state) = λ e. inr e
-  found-in d found (Update sender state) = λ e. inr e
-  found-in d found (Setpoints sender l digest) = λ e. inr e
-  found-in d found (Due l) = λ e. inr e
-  found-in d found (CollectingEnds l) = λ e. inr e
-  found-in d found (VotingEnds l) = λ e. inr e
-  found-in d found (Floor l) = λ e. inr e
-  found-in d found (Start own low) = λ e. inr e
-  found-in d found (Refused number) = λ e. inr e
+      hit : (sender : ℕ) (l : RoundLabel) (digest : Digest) → sender ≡ j → l ≡ label → digest ≡ d → Vote sender l digest ≡ Vote j label d
+      hit sender l digest p q r = λ i. Vote (p i) (q i) (r i)
+
+      of : (sender : ℕ) (l : RoundLabel) (digest : Digest) → voteIf j label found (Vote sender l digest) ≡ Cast d → (Vote sender l digest ≡ Vote j label d) ⊎ (found ≡ Cast d)
+      of sender l digest =
+          on-pick (λ (b : Ballot). b ≡ Cast d → (Vote sender l digest ≡ Vote j label d) ⊎ (found ≡ Cast d)) (eqb sender j && eqb (l .0) (label .0))
+          (λ t e. inl (hit sender l digest (eqb-true sender j (and-left (eqb sender j) _ t)) (same-round l label (eqb-true _ _ (and-right (eqb sender j) _ t))) (same-digest e))) (λ t e. inr e)
 
   abbrev Some : Ballot → Type 0
   Some b = (d : Digest) × (b ≡ Cast d)
 
   -- a vote that was found stays, or another takes its place
   still-found : (found : Ballot) (h : Head) → Some found → Some (voteIf j label found h)
-  still-found found (Vote sender l digest) e = on-pick Some (eqb sender j && eqb (l .0) (label .0)) (λ t. (digest, refl)) (λ t. e)
-  still-found found (Reading l run raw) e = e
-  still-found found (Query sender l mask) e = e
-  still-found found (Reply sender l mask) e = e
-  still-found found (Advert sender state) e = e
-  still-found found (Update sender state) e = e
-  still-found found (Setpoints sender l digest) e = e
-  still-found found (Due l) e = e
-  still-found found (CollectingEnds l) e = e
-  still-found found (VotingEnds l) e = e
-  still-found found (Floor l) e = e
-  still-found found (Start own low) e = e
-  still-found found (Refused number) e = e
+  still-found found h =
+      by-kind (λ (k : Head). Some found → Some (voteIf j label found k)) (λ v e. on-pick Some (eqb (v .0) j && eqb (v .1 .0) (label .0)) (λ t. (v .2, refl)) (λ t. e)) (λ k q e. rw q e) (vote-seen h)
 
   now-found : (d : Digest) (found : Ballot) (h : Head) → h ≡ Vote j label d → Some (voteIf j label found h)
   now-found d found h e =
@@ -100,7 +83,7 @@ module _ (j : ℕ) (label : RoundLabel) where
       (on-pick Some (eqb j j && eqb (label .0) (label .0)) (λ t. (d, refl)) (λ f. absurd (yes f)))
     where
       yes : (eqb j j && eqb (label .0) (label .0)) ≡ false → ⊥
-      yes f = let z : true ≡ false = sym (and-both (eq-eqb j j refl) (eq-eqb (label .0) (label .0) refl)) ∙ f in let y : _≡_ {A = ℕ} 0 1 = cc in omega arith
+      yes f = let z : true ≡ false = sym (and-both (eq-eqb j j refl) (eq-eqb (label .0) (label .0) refl)) ∙ f in absurd-by (cc)
 
   -- a vote that is found was released
   found-released : (sent : List Message) (d : Digest) → voteOf sent j label ≡ Cast d → Released sent j label d

@@ -2,18 +2,18 @@
 use Prim.Native.Nat.{ℕ}
 use mathlib.Core.Path.{_≡_, refl, sym, ap, subst, _∙_}
 use mathlib.Core.List.{_++_, List·Memᴰ, List·Memᴰ·head, List·Memᴰ·not-nil, Memᴰ·append-right}
-use mathlib.Core.Logic.{_⊎_, ⊎-elim}
+use mathlib.Core.Logic.{⊎-elim}
 use mathlib.Core.Option.{Option, none, some}
 use Rattle.units.specs.declared.labels.RoundLabel.{RoundLabel}
 use Rattle.units.specs.declared.settings.Numbers.{Numbers}
 use Rattle.vote.specs.declared.digest.Digest.{Digest}
 use Rattle.message.specs.declared.head.Head.{Head}
-use Rattle.message.specs.declared.head.Head.the-variants.{Reading, Query, Reply, Advert, Update, Vote, Setpoints, Due, CollectingEnds, VotingEnds, Floor, Start, Refused}
+use Rattle.message.proofs.Views.{telling-exchanged}
 use Rattle.message.specs.declared.value.Message.{Message}
 use Rattle.controller.specs.declared.state.Controller.{Controller}
 use Rattle.controller.specs.Step.{stepped}
-use Rattle.group.specs.World.{World, mark, Event, hand, store, crash, confirms, answered, handed, after}
-use Rattle.group.specs.Premises.{Meters, Exchanged, Telling, Released, Kept, Enough, On, Onward, here, next, Run}
+use Rattle.group.specs.World.{mark, hand, store, crash, On, here, next, World, Event, confirms, answered, handed, after}
+use Rattle.group.specs.Premises.{Meters, Released, Kept, Enough, Onward, Run}
 use Rattle.group.proofs.Sent.{released-by}
 use Rattle.group.proofs.Later.{continued}
 use Rattle.group.proofs.Once.{OwnVote, own-vote, Once, once}
@@ -21,22 +21,6 @@ use Rattle.group.proofs.Once.{OwnVote, own-vote, Once, once}
 -- ---- what was released was confirmed
 abbrev pub Confirmed : World → Type 0
 Confirmed w = (i : ℕ) (label : RoundLabel) (d : Digest) → Released (w .sent) i label d → List·Memᴰ (mark i label) (w .confirmed)
-
--- R, U and D are among the lines that controllers send each other
-exchanged : (h : Head) → Telling h → Exchanged h
-exchanged (Reply sender label mask) t = tt
-exchanged (Update sender state) t = tt
-exchanged (Vote sender label digest) t = tt
-exchanged (Query sender label mask) t = absurd t
-exchanged (Advert sender state) t = absurd t
-exchanged (Setpoints sender label digest) t = absurd t
-exchanged (Reading label run raw) t = absurd t
-exchanged (Due label) t = absurd t
-exchanged (CollectingEnds label) t = absurd t
-exchanged (VotingEnds label) t = absurd t
-exchanged (Floor label) t = absurd t
-exchanged (Start own low) t = absurd t
-exchanged (Refused number) t = absurd t
 
 module _ (s : Numbers) (meters : Meters) where
   confirmed-answered : (w : World) → Once s meters w → Confirmed w → (i : ℕ) (c : Controller) → w .up i ≡ some c → (a : Message) → Confirmed (answered s w i (a .head) (stepped s c a))
@@ -68,7 +52,7 @@ module _ (s : Numbers) (meters : Meters) where
   enough-hand w f i a k =
       record {
         one-reading = k .one-reading;
-        not-made-up = λ t. k .not-made-up (exchanged (a .head) t);
+        not-made-up = λ t. k .not-made-up (telling-exchanged (a .head) t);
         own-number = k .own-number;
         not-voted = λ own low e label d p. k .highest-floor own low e label (f i label d p);
       }

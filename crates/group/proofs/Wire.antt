@@ -1,6 +1,5 @@
 -- DEMAND 3 ON THE WIRE: a run over lines is a run over messages, since what is written is read back as it was. Assumes nothing beyond the premises.
 use Prim.Native.Nat.{ℕ}
-use native.Mathlib.Omega.{arith}
 use mathlib.Core.Path.{_≡_, refl, sym, ap, subst, _∙_}
 use mathlib.Core.List.{List, [], _∷_, map, List·Memᴰ, List·Memᴰ·head, List·Memᴰ·tail, Memᴰ·of-map}
 use mathlib.Core.Option.{Option, none, some}
@@ -13,6 +12,7 @@ use Rattle.message.specs.declared.head.Head.{Head}
 use Rattle.message.specs.declared.head.Head.the-variants.{Vote, Setpoints, Refused}
 use Rattle.message.specs.declared.value.Message.{Message}
 use Rattle.message.specs.Message.{plain}
+use Rattle.fields.proofs.Cases.{absurd-by}
 use Rattle.lines.specs.declared.read.Line.{Line}
 use Rattle.lines.specs.Reading.{readLine}
 use Rattle.lines.specs.Writing.{spellLine}
@@ -28,12 +28,10 @@ use Rattle.controller.specs.Step.{stepped}
 use Rattle.controller_laws.specs.Outcomes.{SentBy}
 use Rattle.controller_laws.specs.Outcomes.SentBy.{query, reply, advert, update, floor, vote, setpoints}
 use Rattle.controller_laws.proofs.Outcomes.{sent-by}
-use Rattle.group.specs.World.{World, empty, sending, sentBy, handed, after}
-use Rattle.group.specs.World as Messages
-use Rattle.group.specs.Premises.{Meters, Released, Kept, Onward, Run}
-use Rattle.group.specs.Premises as Runs
+use Rattle.group.specs.World.{empty, EventOf, hand, store, crash, On, here, next, World, sending, sentBy, handed, after}
+use Rattle.group.specs.Premises.{Meters, Released, KeptAs, Kept, Onward, Run}
 use Rattle.group.specs.Demand.{Right}
-use Rattle.group.specs.Wire.{Wire, silent, Happening, hand, store, crash, spelling, spelledBy, takes, hears, afterwards, KeptLine, OnLine, OnwardLines, here, next, readAs, readAll, from, Demand3Lines}
+use Rattle.group.specs.Wire.{Wire, spelling, spelledBy, takes, hears, readAs, afterwards, KeptLine, OnwardLines, readAll, from, Demand3Lines}
 use Rattle.group.proofs.Later.{continued, every-sent}
 use Rattle.group.proofs.Named.{sent-in-range}
 use Rattle.group.proofs.Sent.{fresh-head}
@@ -42,13 +40,13 @@ use Rattle.group.proofs.Weaker.{weaker}
 
 -- ---- what is sent
 no-x : {s : Numbers} {c : Controller} {h : Head} {n : Controller} {k : Head} → SentBy s c h n k → (number : ℕ) → k ≡ Refused number → ⊥
-no-x (query e) number q = let z : _≡_ {A = ℕ} 0 1 = cc in omega arith
-no-x (reply mask e) number q = let z : _≡_ {A = ℕ} 0 1 = cc in omega arith
-no-x (advert e) number q = let z : _≡_ {A = ℕ} 0 1 = cc in omega arith
-no-x (update e) number q = let z : _≡_ {A = ℕ} 0 1 = cc in omega arith
-no-x (floor e) number q = let z : _≡_ {A = ℕ} 0 1 = cc in omega arith
-no-x (vote e p) number q = let z : _≡_ {A = ℕ} 0 1 = cc in omega arith
-no-x (setpoints t) number q = let z : _≡_ {A = ℕ} 0 1 = cc in omega arith
+no-x (query e) number q = absurd-by (cc)
+no-x (reply mask e) number q = absurd-by (cc)
+no-x (advert e) number q = absurd-by (cc)
+no-x (update e) number q = absurd-by (cc)
+no-x (floor e) number q = absurd-by (cc)
+no-x (vote e p) number q = absurd-by (cc)
+no-x (setpoints t) number q = absurd-by (cc)
 
 -- S has its targets and nothing else
 abbrev Bare : Message → Type 0
@@ -95,7 +93,7 @@ module _ (s : Numbers) (meters : Meters) where
       let e : readAs s line ≡ q .0 = ap (λ (l : List ℕ). readAs s l) (sym (q .2)) ∙ ap (λ (l : Line). l .message) (read-back run (q .0) (q .1)) in
       subst (λ (x : Message). List·Memᴰ x (w .sent)) (sym e) (q .1)
 
-  kept : {w : World} → Run s (Kept meters) w → (i : ℕ) (line : List ℕ) → KeptLine meters (wireOf w) i line (readAs s line) → Kept meters w i (readAs s line)
+  kept : {w : World} → Run s (Kept meters) w → (i : ℕ) (line : List ℕ) → KeptAs meters (wireOf w) i line (readAs s line) → Kept meters w i (readAs s line)
   kept run i line k =
       record {
         one-reading = k .one-reading;
@@ -109,21 +107,21 @@ module _ (s : Numbers) (meters : Meters) where
   abbrev Led : World → Wire → Type 0
   Led w u = (v : World) × Onward s (Kept meters) w v × (u ≡ wireOf v)
 
-  heard : (w : World) → Run s (Kept meters) w → (i : ℕ) (line : List ℕ) → OnLine s meters (wireOf w) (hand i line) → (v : Verdict) → readLine (s .group) line .verdict ≡ v
+  heard : (w : World) → Run s (Kept meters) w → (i : ℕ) (line : List ℕ) → KeptLine s meters (wireOf w) i line → (v : Verdict) → readLine (s .group) line .verdict ≡ v
       → Led w (hears s (wireOf w) i (readAs s line) v)
-  heard w run i line k Taken e = (after s w (Messages.hand i (readAs s line)), Runs.next Runs.here (Messages.hand i (readAs s line)) (kept run i line (k e)), takes-as w i (readAs s line) (w .up i))
-  heard w run i line k (Denied why) e = (w, Runs.here, refl)
+  heard w run i line k Taken e = (after s w (hand i (readAs s line)), next here (hand i (readAs s line)) (kept run i line (k e)), takes-as w i (readAs s line) (w .up i))
+  heard w run i line k (Denied why) e = (w, here, refl)
 
-  happens : (w : World) → Run s (Kept meters) w → (e : Happening) → OnLine s meters (wireOf w) e → Led w (afterwards s (wireOf w) e)
+  happens : (w : World) → Run s (Kept meters) w → (e : EventOf (List ℕ)) → On (KeptLine s meters) (wireOf w) e → Led w (afterwards s (wireOf w) e)
   happens w run (hand i line) k = heard w run i line k (readLine (s .group) line .verdict) refl
-  happens w run (store i label) k = (after s w (Messages.store i label), Runs.next Runs.here (Messages.store i label) tt, refl)
-  happens w run (crash i) k = (after s w (Messages.crash i), Runs.next Runs.here (Messages.crash i) tt, refl)
+  happens w run (store i label) k = (after s w (store i label), next here (store i label) tt, refl)
+  happens w run (crash i) k = (after s w (crash i), next here (crash i) tt, refl)
 
   follows : {v u : Wire} (w : World) → Run s (Kept meters) w → v ≡ wireOf w → OnwardLines s meters v u → Led w u
-  follows w run e here = (w, Runs.here, e)
+  follows w run e here = (w, here, e)
   follows w run e (next on x k) =
       let a = follows w run e on in
-      let b = happens (a .0) (continued run (a .1)) x (subst (λ (y : Wire). OnLine s meters y x) (a .2) k) in
+      let b = happens (a .0) (continued run (a .1)) x (subst (λ (y : Wire). On (KeptLine s meters) y x) (a .2) k) in
       (b .0, continued (a .1) (b .1), ap (λ (y : Wire). afterwards s y x) (a .2) ∙ b .2)
 
   -- ---- the lines are read as the messages
@@ -170,8 +168,8 @@ module _ (s : Numbers) (meters : Meters) where
         }
 
   -- DEMAND 3 OF THE BYTES: every run over lines that keeps the premises, to w, and however it goes on, to v
-  pub demand3-lines : {w v : Wire} → OnwardLines s meters silent w → OnwardLines s meters w v → Demand3Lines s meters w v
+  pub demand3-lines : {w v : Wire} → OnwardLines s meters empty w → OnwardLines s meters w v → Demand3Lines s meters w v
   demand3-lines {w} {v} run on =
-      let a = follows empty Runs.here refl run in
+      let a = follows empty here refl run in
       let b = follows (a .0) (a .1) (a .2) on in
       subst (λ (x : Wire). Demand3Lines s meters x v) (sym (a .2)) (subst (Demand3Lines s meters (wireOf (a .0))) (sym (b .2)) (lines-demand (a .0) (b .0) (a .1) (b .1)))

@@ -6,12 +6,11 @@ use Rattle.units.specs.Settings.{groupFits, runsFit, numbersFit}
 use Rattle.message.specs.Settings.{certificateFits, settingsFit}
 use Rattle.lines.specs.Lists.{column}
 use Rattle.controller_laws.specs.Session.{numbers}
-use Rattle.group.specs.World.{empty}
-use Rattle.group.specs.Premises.{Kept, here, Run}
+use Rattle.group.specs.World.{empty, here}
+use Rattle.group.specs.Premises.{Kept, Run}
 use Rattle.group.specs.Scripts.{played, allFair, allWritable, refusals, saying}
 use Rattle.group.specs.Examples.{steady, session, sessionSays, three, returning, returningSays, mixed, mixedNumbers, mixedSays, certified}
-use Rattle.group.specs.Wire.{OnwardLines, silent}
-use Rattle.group.specs.Wire as Lines
+use Rattle.group.specs.Wire.{OnwardLines}
 use Rattle.group.proofs.Examples.{scripted}
 use Rattle.group.proofs.Wire.{wireOf}
 use Rattle.group.proofs.WireExamples.{scripted-lines}
@@ -73,14 +72,14 @@ unfolding run-computes three mixed
 mixed-written = refl
 
 -- the same runs over lines
-pub session-lines : OnwardLines numbers steady silent (wireOf numbers steady (played numbers empty session))
-session-lines = scripted-lines numbers steady empty session here Lines.here session-fair session-written
+pub session-lines : OnwardLines numbers steady empty (wireOf numbers steady (played numbers empty session))
+session-lines = scripted-lines numbers steady empty session here here session-fair session-written
 
-pub returning-lines : OnwardLines three steady silent (wireOf three steady (played three empty returning))
-returning-lines = scripted-lines three steady empty returning here Lines.here returning-fair returning-written
+pub returning-lines : OnwardLines three steady empty (wireOf three steady (played three empty returning))
+returning-lines = scripted-lines three steady empty returning here here returning-fair returning-written
 
-pub mixed-lines : OnwardLines three steady silent (wireOf three steady (played three empty mixed))
-mixed-lines = scripted-lines three steady empty mixed here Lines.here mixed-fair mixed-written
+pub mixed-lines : OnwardLines three steady empty (wireOf three steady (played three empty mixed))
+mixed-lines = scripted-lines three steady empty mixed here here mixed-fair mixed-written
 
 -- and of stations, which have the session's certificates
 pub session-certified : settingsFit (certified numbers) ≡ true

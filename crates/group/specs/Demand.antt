@@ -20,8 +20,9 @@ use Rattle.vote.specs.declared.votes.Votes.{Votes}
 use Rattle.vote.specs.Vote.{Wins, ballots, votesFit}
 use Rattle.filter.specs.Compute.{computed}
 use Rattle.message.specs.declared.head.Head.{Head}
-use Rattle.message.specs.declared.head.Head.the-variants.{Reading, Query, Reply, Advert, Update, Vote, Setpoints, Due, CollectingEnds, VotingEnds, Floor, Start, Refused}
+use Rattle.message.specs.declared.head.Head.the-variants.{Setpoints}
 use Rattle.message.specs.declared.value.Message.{Message}
+use Rattle.message.specs.View.{onVote}
 use Rattle.controller.specs.Start.{startEstimates}
 use Rattle.group.specs.World.{World}
 use Rattle.group.specs.Premises.{Meters, Released}
@@ -30,19 +31,7 @@ use Rattle.group.specs.Premises.{Meters, Released}
 
 -- a D of the number j for the label is its vote; any other message leaves what was found before
 abbrev pub voteIf : ℕ → RoundLabel → Ballot → Head → Ballot
-voteIf j label found (Vote sender l digest) = pick (eqb sender j && eqb (l .0) (label .0)) (Cast digest) found
-voteIf j label found (Reading l run raw) = found
-voteIf j label found (Query sender l mask) = found
-voteIf j label found (Reply sender l mask) = found
-voteIf j label found (Advert sender state) = found
-voteIf j label found (Update sender state) = found
-voteIf j label found (Setpoints sender l digest) = found
-voteIf j label found (Due l) = found
-voteIf j label found (CollectingEnds l) = found
-voteIf j label found (VotingEnds l) = found
-voteIf j label found (Floor l) = found
-voteIf j label found (Start own floor) = found
-voteIf j label found (Refused number) = found
+voteIf j label found head = onVote (λ sender l digest. pick (eqb sender j && eqb (l .0) (label .0)) (Cast digest) found) found head
 
 unfoldable pub voteOf : List Message → ℕ → RoundLabel → Ballot
 voteOf [] j label = Missing

@@ -13,9 +13,9 @@ use Rattle.session.specs.Feeding.{sessionStart}
 use Rattle.session.specs.Pieces.{Feeds}
 use Rattle.fields.specs.Lines.{linesOf}
 use Rattle.session.specs.Turn.{coreStart, turn}
-use Rattle.group.specs.World.{put}
+use Rattle.group.specs.World.{empty, EventOf, hand, store, crash, put, Asks, On, OnwardBy, here, next}
 use Rattle.group.specs.Premises.{Meters}
-use Rattle.group.specs.Stations.{Stations, still, Doing, hand, store, crash, boot, later, Booted, OnStation, OnwardStations, here, next}
+use Rattle.group.specs.Stations.{Stations, Given, line, boot, turns, later, Booted, OnwardStations}
 
 -- a program since its boot: the lines of its settings, every line handed to it since, and all the bytes that it wrote
 pub record Life : Type 0 where
@@ -31,18 +31,18 @@ born lines = record { settings = lines; since = []; wrote = told coreStart lines
 
 -- a line handed to a program that runs is one turn of it
 abbrev pub livedOn : List ℕ → Option Core → Option Life → Option Life
-livedOn line none life = life
-livedOn line (some c) none = none
-livedOn line (some c) (some l) = some (record { settings = l .settings; since = l .since ++ (line ∷ []); wrote = l .wrote ++ turn c line .text })
+livedOn l none life = life
+livedOn l (some c) none = none
+livedOn l (some c) (some a) = some (record { settings = a .settings; since = a .since ++ (l ∷ []); wrote = a .wrote ++ turn c l .text })
 
-abbrev pub livesAfter : (ℕ → Option Core) → (ℕ → Option Life) → Doing → ℕ → Option Life
-livesAfter up before (hand i line) = put before i (livedOn line (up i) (before i))
+abbrev pub livesAfter : (ℕ → Option Core) → (ℕ → Option Life) → EventOf Given → ℕ → Option Life
+livesAfter up before (hand i (line l)) = put before i (livedOn l (up i) (before i))
+livesAfter up before (hand i (boot ls)) = put before i (some (born ls))
 livesAfter up before (store i label) = before
 livesAfter up before (crash i) = put before i none
-livesAfter up before (boot i lines) = put before i (some (born lines))
 
 -- the life of each number's program at the end of a run, none while it does not run
-unfoldable pub lives : {s : Numbers} {meters : Meters} {w v : Stations} → OnwardStations s meters w v → ℕ → Option Life
+unfoldable pub lives : {P : Asks Core (List ℕ) Given} {w v : Stations} → OnwardBy turns P w v → ℕ → Option Life
 lives here = λ i. none
 lives (next {v} on e k) = livesAfter (v .up) (lives on) e
 
@@ -60,11 +60,11 @@ GoesIn s (some c) none = ⊥
 GoesIn s (some c) (some l) = Goes s c l
 
 -- a line of what some program has written, at the end of the run or at an earlier moment of it
-pub data Written {s : Numbers} {meters : Meters} : (w : Stations) → OnwardStations s meters still w → List ℕ → Type 0 where
-  now : {w : Stations} {run : OnwardStations s meters still w} {x : List ℕ} (i : ℕ) (l : Life) → lives run i ≡ some l → List·Memᴰ x (linesOf (l .wrote)) → Written w run x
-  before : {w : Stations} {run : OnwardStations s meters still w} {x : List ℕ} (e : Doing) (k : OnStation s meters w e) → Written w run x → Written (later w e) (next run e k) x
+pub data Written {P : Asks Core (List ℕ) Given} : (w : Stations) → OnwardBy turns P empty w → List ℕ → Type 0 where
+  now : {w : Stations} {run : OnwardBy turns P empty w} {x : List ℕ} (i : ℕ) (l : Life) → lives run i ≡ some l → List·Memᴰ x (linesOf (l .wrote)) → Written w run x
+  before : {w : Stations} {run : OnwardBy turns P empty w} {x : List ℕ} (e : EventOf Given) (k : On P w e) → Written w run x → Written (later w e) (next run e k) x
 
-pub record ByTurns {s : Numbers} {meters : Meters} {w : Stations} (run : OnwardStations s meters still w) : Type 0 where
+pub record ByTurns (s : Numbers) (meters : Meters) (w : Stations) (run : OnwardStations s meters empty w) : Type 0 where
   -- each number's program is where its lines lead, those of its settings and all that were handed since, and wrote exactly their texts
   pub stands : (i : ℕ) → GoesIn s (w .up i) (lives run i)
   -- what was ever sent is the lines of these texts, no more and no less

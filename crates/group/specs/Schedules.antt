@@ -6,14 +6,14 @@ use lib.ListN.{replicate}
 use Rattle.units.specs.declared.settings.Numbers.{Numbers}
 use Rattle.units.specs.Pick.{pick}
 use Rattle.vote.specs.declared.digest.Digest.{Digest}
-use Rattle.message.specs.declared.head.Head.{Head}
-use Rattle.message.specs.declared.head.Head.the-variants.{Reading, Query, Reply, Advert, Update, Vote, Setpoints, Due, CollectingEnds, VotingEnds, Floor, Start, Refused}
+use Rattle.message.specs.declared.head.Head.the-variants.{Reading, Vote, Setpoints, CollectingEnds, Floor, Start}
 use Rattle.message.specs.declared.value.Message.{Message}
+use Rattle.message.specs.View.{onIssue}
 use Rattle.controller.specs.declared.state.Controller.{Controller}
 use Rattle.controller.specs.declared.step.Answer.{Answer}
 use Rattle.controller.specs.Step.{stepped}
 use Rattle.controller_laws.specs.Session.{Line, line, sends, numbers}
-use Rattle.group.specs.World.{World, empty, Event, hand, store, crash, answered, after}
+use Rattle.group.specs.World.{empty, afterBy, World, answered, handed}
 use Rattle.group.specs.Scripts.{Act, give, pass, keep, fall, eventOf, fair}
 use Rattle.group.specs.Examples.{round, stateOf, bothRuns, steady, three}
 
@@ -24,44 +24,30 @@ abbrev pub Stepping : Type 0
 Stepping = Numbers → Controller → Message → Answer
 
 abbrev pub handedBy : Stepping → Numbers → World → ℕ → Message → Option Controller → World
-handedBy step s w i a none = after s w (hand i a)
+handedBy step s w i a none = handed s w i a none
 handedBy step s w i a (some c) = answered s w i (a .head) (step s c a)
 
-abbrev pub afterBy : Stepping → Numbers → World → Event → World
-afterBy step s w (hand i a) = handedBy step s w i a (w .up i)
-afterBy step s w (store i label) = after s w (store i label)
-afterBy step s w (crash i) = after s w (crash i)
+abbrev pub playing : Stepping → Numbers → World → Act → World
+playing step s w x = afterBy (λ v i a. handedBy step s v i a (v .up i)) w (eventOf w x)
 
 unfoldable pub playedBy : Stepping → Numbers → World → List Act → World
 playedBy step s w [] = w
-playedBy step s w (x ∷ more) = playedBy step s (afterBy step s w (eventOf w x)) more
+playedBy step s w (x ∷ more) = playedBy step s (playing step s w x) more
 
 -- the acts that break a premise, by their place in the script, counted from 0
 unfoldable pub unfairBy : Stepping → Numbers → World → ℕ → List Act → List ℕ
 unfairBy step s w n [] = []
 unfairBy step s w n (x ∷ more) =
-    let rest = unfairBy step s (afterBy step s w (eventOf w x)) (suc n) more in
+    let rest = unfairBy step s (playing step s w x) (suc n) more in
     pick (fair steady w x) rest (n ∷ rest)
 
 -- the S that were sent, the oldest first
-unfoldable pub issueIf : Numbers → Message → Head → List Line → List Line
-issueIf s x (Setpoints sender label digest) later = line (s .group) x ∷ later
-issueIf s x (Reading label run raw) later = later
-issueIf s x (Query sender label mask) later = later
-issueIf s x (Reply sender label mask) later = later
-issueIf s x (Advert sender state) later = later
-issueIf s x (Update sender state) later = later
-issueIf s x (Vote sender label digest) later = later
-issueIf s x (Due label) later = later
-issueIf s x (CollectingEnds label) later = later
-issueIf s x (VotingEnds label) later = later
-issueIf s x (Floor label) later = later
-issueIf s x (Start own floor) later = later
-issueIf s x (Refused number) later = later
+unfoldable pub issueIf : Numbers → Message → List Line → List Line
+issueIf s x later = onIssue (λ sender label digest. line (s .group) x ∷ later) later (x .head)
 
 unfoldable pub issues : Numbers → List Message → List Line → List Line
 issues s [] later = later
-issues s (x ∷ sent) later = issues s sent (issueIf s x (x .head) later)
+issues s (x ∷ sent) later = issues s sent (issueIf s x later)
 
 pub record Outcome : Type 0 where
   pub unfair : List ℕ

@@ -1,6 +1,6 @@
 -- RUNS WRITTEN DOWN: a script of acts, the world that it leads to, and a test that each act keeps the premises as they are worded.
 use Prim.Native.Nat.{ℕ, _-_}
-use mathlib.Core.Bool.{Bool, true, false, _&&_, _||_}
+use mathlib.Core.Bool.{Bool, true, false, not, _&&_, _||_}
 use mathlib.Core.List.{List, [], _∷_}
 use mathlib.Core.Option.{Option, none, some}
 use lib.Dec.{eqb, leb, ltb}
@@ -9,9 +9,12 @@ use Rattle.units.specs.declared.labels.RoundLabel.{RoundLabel}
 use Rattle.units.specs.declared.settings.Numbers.{Numbers}
 use Rattle.units.specs.Refusal.{verdictNumber}
 use Rattle.message.specs.declared.head.Head.{Head}
-use Rattle.message.specs.declared.head.Head.the-variants.{Reading, Query, Reply, Advert, Update, Vote, Setpoints, Due, CollectingEnds, VotingEnds, Floor, Start, Refused}
+use Rattle.message.specs.declared.head.Head.the-variants.{Refused}
 use Rattle.message.specs.declared.value.Message.{Message}
 use Rattle.message.specs.Message.{plain, messageFits}
+use Rattle.message.specs.View.{onReading, onFloor, onStart, isExchanged}
+use Rattle.lines.specs.Table.{letterOf}
+use Rattle.lines.specs.Values.{kindIs}
 use Rattle.controller.specs.declared.state.Controller.{Controller}
 use Rattle.controller.specs.Step.{stepped}
 use Rattle.controller_laws.specs.Session.{Line, line}
@@ -39,21 +42,6 @@ played s w [] = w
 played s w (x ∷ more) = played s (after s w (eventOf w x)) more
 
 -- ---- the test
-unfoldable pub exchanged : Head → Bool
-exchanged (Query sender label mask) = true
-exchanged (Reply sender label mask) = true
-exchanged (Advert sender state) = true
-exchanged (Update sender state) = true
-exchanged (Vote sender label digest) = true
-exchanged (Setpoints sender label digest) = true
-exchanged (Reading label run raw) = false
-exchanged (Due label) = false
-exchanged (CollectingEnds label) = false
-exchanged (VotingEnds label) = false
-exchanged (Floor label) = false
-exchanged (Start own floor) = false
-exchanged (Refused number) = false
-
 -- the floor is among those of the number i
 unfoldable pub marked : ℕ → RoundLabel → List Mark → Bool
 marked i label [] = false
@@ -64,24 +52,15 @@ unfoldable pub highest : ℕ → RoundLabel → List Mark → Bool
 highest i floor [] = true
 highest i floor (x ∷ more) = (ltb (x .who) i || ltb i (x .who) || leb (x .floor .0) (floor .0)) && highest i floor more
 
+-- M is the meter's, F was stored, B is for its own number and not below its floors; of Q R A U D S none is given, but passed
 unfoldable pub fairly : Meters → World → ℕ → Head → Bool
-fairly meters w i (Reading label run raw) = eqb raw (meters label run)
-fairly meters w i (Due label) = true
-fairly meters w i (CollectingEnds label) = true
-fairly meters w i (VotingEnds label) = true
-fairly meters w i (Floor label) = marked i label (w .stored)
-fairly meters w i (Start own floor) = eqb own i && highest i floor (w .confirmed)
-fairly meters w i (Query sender label mask) = false
-fairly meters w i (Reply sender label mask) = false
-fairly meters w i (Advert sender state) = false
-fairly meters w i (Update sender state) = false
-fairly meters w i (Vote sender label digest) = false
-fairly meters w i (Setpoints sender label digest) = false
-fairly meters w i (Refused number) = false
+fairly meters w i h =
+    onReading (λ label run raw. eqb raw (meters label run))
+    (onFloor (λ label. marked i label (w .stored)) (onStart (λ own floor. eqb own i && highest i floor (w .confirmed)) (not (isExchanged h)) h) h) h
 
 unfoldable pub fair : Meters → World → Act → Bool
 fair meters w (give i head) = fairly meters w i head
-fair meters w (pass i n) = ltb n (length (w .sent)) && exchanged (nth (w .sent) n .head)
+fair meters w (pass i n) = ltb n (length (w .sent)) && isExchanged (nth (w .sent) n .head)
 fair meters w (keep i label) = true
 fair meters w (fall i) = true
 
@@ -89,9 +68,9 @@ unfoldable pub allFair : Numbers → Meters → World → List Act → Bool
 allFair s meters w [] = true
 allFair s meters w (x ∷ more) = fair meters w x && allFair s meters (after s w (eventOf w x)) more
 
--- every message that is given can be written as a line
+-- every message that is given can be written as a line that is read: X is only written
 unfoldable pub writable : Numbers → Act → Bool
-writable s (give i head) = messageFits (s .group) (plain head)
+writable s (give i head) = not (eqb (letterOf (kindIs head)) 88) && messageFits (s .group) (plain head)
 writable s (pass i n) = true
 writable s (keep i label) = true
 writable s (fall i) = true

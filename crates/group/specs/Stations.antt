@@ -1,4 +1,4 @@
--- A GROUP OF STATIONS: Wire.antt once more, with the station program in a controller's place. What is handed is a whole line, what comes of it is the program's `turn`.
+-- A GROUP OF STATIONS: the world with the station program in a controller's place. What is handed is a whole line, what comes of it is the program's `turn`.
 use Prim.Native.Nat.{ℕ}
 use mathlib.Core.Path.{_≡_}
 use mathlib.Core.List.{List, [], _∷_, _++_, List·Memᴰ}
@@ -20,27 +20,19 @@ use Rattle.session.specs.Booting.{led, told}
 use Rattle.session.specs.Demand.{saidBy}
 use Rattle.fields.specs.Lines.{linesOf}
 use Rattle.session.specs.Turn.{numbersIn, groupIn, coreStart, turn}
-use Rattle.group.specs.World.{Mark, mark, put, confirms}
+use Rattle.group.specs.World.{Mark, WorldOf, EventOf, put, Takes, afterBy, OnwardBy, confirms}
 use Rattle.group.specs.Premises.{Meters}
 use Rattle.group.specs.Demand.{Right}
 use Rattle.group.specs.Wire.{Wire, KeptLine, readAs, readAll, from}
 
 -- the program of each number, none while it does not run; every line that any of them ever wrote, X among them, the last first
-pub record Stations : Type 0 where
-  pub up : ℕ → Option Core
-  pub sent : List (List ℕ)
-  pub stored : List Mark
-  pub confirmed : List Mark
+abbrev pub Stations : Type 0
+Stations = WorldOf Core (List ℕ)
 
-abbrev pub still : Stations
-still = record { up = λ i. none; sent = []; stored = []; confirmed = [] }
-
--- `boot` starts a number's program anew, with the lines of its settings
-pub data Doing : Type 0 where
-  hand : ℕ → List ℕ → Doing
-  store : ℕ → RoundLabel → Doing
-  crash : ℕ → Doing
-  boot : ℕ → List (List ℕ) → Doing
+-- what is handed to a number: a line, or a boot, which starts its program anew with the lines of its settings
+pub data Given : Type 0 where
+  line : List ℕ → Given
+  boot : List (List ℕ) → Given
 
 -- lines put ahead of those before, one by one
 unfoldable pub puts : List (List ℕ) → List (List ℕ) → List (List ℕ)
@@ -57,20 +49,21 @@ confirming i head v Ended = []
 
 -- a line handed to a number whose program does not run is lost
 abbrev pub turned : Stations → ℕ → List ℕ → Option Core → Stations
-turned w i line none = w
-turned w i line (some c) =
+turned w i l none = w
+turned w i l (some c) =
     record {
-      up = put (w .up) i (some (turn c line .next));
-      sent = puts (linesOf (turn c line .text)) (w .sent);
+      up = put (w .up) i (some (turn c l .next));
+      sent = puts (linesOf (turn c l .text)) (w .sent);
       stored = w .stored;
-      confirmed = confirming i (saidBy c line .head) (readLine (groupIn c) line .verdict) (c .stage) ++ w .confirmed;
+      confirmed = confirming i (saidBy c l .head) (readLine (groupIn c) l .verdict) (c .stage) ++ w .confirmed;
     }
 
-abbrev pub later : Stations → Doing → Stations
-later w (hand i line) = turned w i line (w .up i)
-later w (store i label) = record { up = w .up; sent = w .sent; stored = mark i label ∷ w .stored; confirmed = w .confirmed }
-later w (crash i) = record { up = put (w .up) i none; sent = w .sent; stored = w .stored; confirmed = w .confirmed }
-later w (boot i lines) = record { up = put (w .up) i (some (led coreStart lines)); sent = puts (linesOf (told coreStart lines)) (w .sent); stored = w .stored; confirmed = w .confirmed }
+abbrev pub turns : Takes Core (List ℕ) Given
+turns w i (line l) = turned w i l (w .up i)
+turns w i (boot ls) = record { up = put (w .up) i (some (led coreStart ls)); sent = puts (linesOf (told coreStart ls)) (w .sent); stored = w .stored; confirmed = w .confirmed }
+
+abbrev pub later : Stations → EventOf Given → Stations
+later = afterBy turns
 
 -- ---- the wire that stations make
 -- before its first B a program has no controller
@@ -98,23 +91,20 @@ wireIn s w = record { up = λ i. controllerIn (w .up i); sent = spoken s (w .sen
 
 -- ---- THE PREMISES: those of Wire.antt on a line that a program reads; nothing is asked of other lines
 abbrev pub Asked : Numbers → Meters → Stations → ℕ → List ℕ → Option Core → Type 0
-Asked s meters w i line none = Unit {0}
-Asked s meters w i line (some c) = readLine (s .group) line .verdict ≡ Taken → KeptLine meters (wireIn s w) i line (readAs s line)
+Asked s meters w i l none = Unit {0}
+Asked s meters w i l (some c) = KeptLine s meters (wireIn s w) i l
 
 -- "one set of settings": the lines lead a new program to its first B, with the group's settings
 pub record Booted (s : Numbers) (c : Core) : Type 0 where
   pub waits : c .stage ≡ Waiting
   pub settings : numbersIn c ≡ s
 
-abbrev pub OnStation : Numbers → Meters → Stations → Doing → Type 0
-OnStation s meters w (hand i line) = Asked s meters w i line (w .up i)
-OnStation s meters w (store i label) = Unit {0}
-OnStation s meters w (crash i) = Unit {0}
-OnStation s meters w (boot i lines) = Booted s (led coreStart lines)
+abbrev pub KeptGiven : Numbers → Meters → Stations → ℕ → Given → Type 0
+KeptGiven s meters w i (line l) = Asked s meters w i l (w .up i)
+KeptGiven s meters w i (boot ls) = Booted s (led coreStart ls)
 
-pub data OnwardStations (s : Numbers) (meters : Meters) (w : Stations) : Stations → Type 0 where
-  here : OnwardStations s meters w w
-  next : {v : Stations} → OnwardStations s meters w v → (e : Doing) → OnStation s meters v e → OnwardStations s meters w (later v e)
+abbrev pub OnwardStations : Numbers → Meters → Stations → Stations → Type 0
+OnwardStations s meters w v = OnwardBy turns (KeptGiven s meters) w v
 
 -- ---- WHAT DEMAND 3 SAYS of what stations write: of every line ever written that is read as an S or a D
 pub record Demand3Stations (s : Numbers) (meters : Meters) (w v : Stations) : Type 0 where

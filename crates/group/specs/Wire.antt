@@ -1,7 +1,7 @@
--- THE GROUP ON THE WIRE: World.antt and Premises.antt once more, with lines of bytes for messages. What is handed is read by `readLine`, what is sent is written by `spellLine`.
+-- THE GROUP ON THE WIRE: the world with lines of bytes for messages. What is handed is read by `readLine`, what is sent is written by `spellLine`.
 use Prim.Native.Nat.{ℕ}
 use mathlib.Core.Path.{_≡_}
-use mathlib.Core.List.{List, [], _∷_, _++_, map, List·Memᴰ}
+use mathlib.Core.List.{List, _∷_, _++_, map, List·Memᴰ}
 use mathlib.Core.Option.{Option, none, some}
 use Rattle.units.specs.declared.labels.RoundLabel.{RoundLabel}
 use Rattle.units.specs.declared.refusal.Verdict.{Verdict}
@@ -18,24 +18,13 @@ use Rattle.controller.specs.declared.state.Controller.{Controller}
 use Rattle.controller.specs.declared.step.Answer.{Answer}
 use Rattle.controller.specs.Sent.{sentMessage}
 use Rattle.controller.specs.Step.{stepped}
-use Rattle.group.specs.World.{Mark, mark, put, confirms, rising}
-use Rattle.group.specs.Premises.{Meters, Exchanged, OneReading, OwnNumber, StoredFirst, HighestFloor}
+use Rattle.group.specs.World.{WorldOf, EventOf, put, withUp, Takes, afterBy, OnwardBy, confirms, rising}
+use Rattle.group.specs.Premises.{Meters, KeptAs}
 use Rattle.group.specs.Demand.{Right}
 
--- every line ever sent, its line feed with it
-pub record Wire : Type 0 where
-  pub up : ℕ → Option Controller
-  pub sent : List (List ℕ)
-  pub stored : List Mark
-  pub confirmed : List Mark
-
-abbrev pub silent : Wire
-silent = record { up = λ i. none; sent = []; stored = []; confirmed = [] }
-
-pub data Happening : Type 0 where
-  hand : ℕ → List ℕ → Happening
-  store : ℕ → RoundLabel → Happening
-  crash : ℕ → Happening
+-- what is sent is a line, its line feed with it
+abbrev pub Wire : Type 0
+Wire = WorldOf Controller (List ℕ)
 
 -- what a step sends, as lines
 abbrev pub spelling : Numbers → Controller → Sent → List (List ℕ) → List (List ℕ)
@@ -46,7 +35,7 @@ abbrev pub spelledBy : Numbers → Answer → List (List ℕ) → List (List ℕ
 spelledBy s r before = spelling s (r .next) (r .second) (spelling s (r .next) (r .first) before)
 
 abbrev pub takes : Numbers → Wire → ℕ → Message → Option Controller → Wire
-takes s w i a none = record { up = put (w .up) i (rising s (a .head)); sent = w .sent; stored = w .stored; confirmed = w .confirmed }
+takes s w i a none = withUp w i (rising s (a .head))
 takes s w i a (some c) =
     let r = stepped s c a in
     record { up = put (w .up) i (some (r .next)); sent = spelledBy s r (w .sent); stored = w .stored; confirmed = confirms i (a .head) ++ w .confirmed }
@@ -56,34 +45,24 @@ abbrev pub hears : Numbers → Wire → ℕ → Message → Verdict → Wire
 hears s w i a Taken = takes s w i a (w .up i)
 hears s w i a (Denied why) = w
 
-abbrev pub afterwards : Numbers → Wire → Happening → Wire
-afterwards s w (hand i line) = hears s w i (readLine (s .group) line .message) (readLine (s .group) line .verdict)
-afterwards s w (store i label) = record { up = w .up; sent = w .sent; stored = mark i label ∷ w .stored; confirmed = w .confirmed }
-afterwards s w (crash i) = record { up = put (w .up) i none; sent = w .sent; stored = w .stored; confirmed = w .confirmed }
-
--- THE PREMISES, on a line that is read as the message a: the same clauses, and that its bytes were sent
-pub record KeptLine (meters : Meters) (w : Wire) (i : ℕ) (line : List ℕ) (a : Message) : Type 0 where
-  pub one-reading : OneReading meters a
-  pub own-number : OwnNumber i a
-  pub not-made-up : Exchanged (a .head) → List·Memᴰ line (w .sent)
-  pub stored-first : StoredFirst (w .stored) i a
-  pub highest-floor : HighestFloor (w .confirmed) i a
-
--- nothing is asked of a line that is refused: bytes may be damaged in any way that the reader sees
-abbrev pub OnLine : Numbers → Meters → Wire → Happening → Type 0
-OnLine s meters w (hand i line) = readLine (s .group) line .verdict ≡ Taken → KeptLine meters w i line (readLine (s .group) line .message)
-OnLine s meters w (store i label) = Unit {0}
-OnLine s meters w (crash i) = Unit {0}
-
-pub data OnwardLines (s : Numbers) (meters : Meters) (w : Wire) : Wire → Type 0 where
-  here : OnwardLines s meters w w
-  next : {v : Wire} → OnwardLines s meters w v → (e : Happening) → OnLine s meters v e → OnwardLines s meters w (afterwards s v e)
-
--- ---- what demand 3 says of bytes
-
--- the messages that lines are read as
+-- the message that a line is read as
 abbrev pub readAs : Numbers → List ℕ → Message
 readAs s line = readLine (s .group) line .message
+
+abbrev pub reads : Numbers → Takes Controller (List ℕ) (List ℕ)
+reads s w i line = hears s w i (readAs s line) (readLine (s .group) line .verdict)
+
+abbrev pub afterwards : Numbers → Wire → EventOf (List ℕ) → Wire
+afterwards s = afterBy (reads s)
+
+-- THE PREMISES, on the message that a line is read as, and that its bytes were sent. Nothing is asked of a line that is refused: bytes may be damaged in any way that the reader sees
+abbrev pub KeptLine : Numbers → Meters → Wire → ℕ → List ℕ → Type 0
+KeptLine s meters w i line = readLine (s .group) line .verdict ≡ Taken → KeptAs meters w i line (readAs s line)
+
+abbrev pub OnwardLines : Numbers → Meters → Wire → Wire → Type 0
+OnwardLines s meters w v = OnwardBy (reads s) (KeptLine s meters) w v
+
+-- ---- what demand 3 says of bytes
 
 abbrev pub readAll : Numbers → List (List ℕ) → List Message
 readAll s sent = map (readAs s) sent

@@ -1,9 +1,9 @@
 -- WHY EACH RULE OF THE STEP IS THERE: wrong rules in its place, with schedules that keep every premise, and two S of one label that differ come of each. They are computed in proofs/Schedules.antt.
-use Prim.Native.Nat.{ℕ, _-_}
+use Prim.Native.Nat.{_-_}
 use mathlib.Core.Bool.{Bool, true, false, _&&_, _||_}
 use mathlib.Core.List.{List, [], _∷_, _++_}
 use mathlib.Core.Option.{Option, none, some}
-use lib.Dec.{eqb, ltb}
+use lib.Dec.{ltb}
 use lib.ListN.{replicate}
 use Rattle.units.specs.declared.settings.Numbers.{Numbers}
 use Rattle.units.specs.Limits.{controllersTop}
@@ -15,8 +15,9 @@ use Rattle.vote.specs.Decision.{winning}
 use Rattle.vote.specs.Vote.{count, missing, ballots, nobody}
 use Rattle.filter.specs.Compute.{newState}
 use Rattle.message.specs.declared.head.Head.{Head}
-use Rattle.message.specs.declared.head.Head.the-variants.{Reading, Query, Reply, Advert, Update, Vote, Setpoints, Due, CollectingEnds, VotingEnds, Floor, Start, Refused}
+use Rattle.message.specs.declared.head.Head.the-variants.{Setpoints, Due, CollectingEnds, VotingEnds, Floor}
 use Rattle.message.specs.Message.{plain}
+use Rattle.message.specs.View.{onReading, onUpdate, onFloor, onIssue}
 use Rattle.plan.specs.declared.brief.Phase.{Phase}
 use Rattle.plan.specs.declared.brief.Phase.the-variants.{Idle, Collecting, Pending, Voting}
 use Rattle.plan.specs.declared.planned.Effect.the-variants.{Keep}
@@ -36,21 +37,17 @@ use Rattle.group.specs.Examples.{round, bothRuns, three}
 use Rattle.group.specs.Schedules.{Stepping, playedBy, Outcome, comesOf, up, low, votes, one, both, run0, parted}
 
 -- ---- small tests
--- the kinds by number, in document 01's order: M Q R A U D S C E V F B X
-unfoldable pub kind : Head → ℕ
-kind (Reading label run raw) = 0
-kind (Query sender label mask) = 1
-kind (Reply sender label mask) = 2
-kind (Advert sender state) = 3
-kind (Update sender state) = 4
-kind (Vote sender label digest) = 5
-kind (Setpoints sender label digest) = 6
-kind (Due label) = 7
-kind (CollectingEnds label) = 8
-kind (VotingEnds label) = 9
-kind (Floor label) = 10
-kind (Start own floor) = 11
-kind (Refused number) = 12
+abbrev pub isReading : Head → Bool
+isReading h = onReading (λ label run raw. true) false h
+
+abbrev pub isUpdate : Head → Bool
+isUpdate h = onUpdate (λ sender state. true) false h
+
+abbrev pub isFloor : Head → Bool
+isFloor h = onFloor (λ label. true) false h
+
+abbrev pub isIssue : Head → Bool
+isIssue h = onIssue (λ sender label digest. true) false h
 
 abbrev pub isIdle : Phase → Bool
 isIdle Idle = true
@@ -64,16 +61,20 @@ isVoting Collecting = false
 isVoting Pending = false
 isVoting Voting = true
 
-abbrev pub isIssue : Sent → Bool
-isIssue Nothing = false
-isIssue (One head) = eqb (kind head) 6
+-- a message of the kind goes out
+abbrev pub isOut : (Head → Bool) → Sent → Bool
+isOut is Nothing = false
+isOut is (One head) = is head
+
+abbrev pub goesOut : (Head → Bool) → Answer → Bool
+goesOut is r = isOut is (r .first) || isOut is (r .second)
 
 abbrev pub instead : Answer → Controller → Answer
 instead r c = record { next = c; first = r .first; second = r .second; verdict = r .verdict }
 
--- ---- own vote before its floor is stored: E does at once what E and F do
+-- ---- own vote before its floor is stored: where F would go out, it does at once what E and F do
 unfoldable pub votesAtOnce : Stepping
-votesAtOnce s c a = pick (eqb (kind (a .head)) 8) (stepped s (stepped s c a .next) (plain (Floor (c .label)))) (stepped s c a)
+votesAtOnce s c a = pick (goesOut isFloor (stepped s c a)) (stepped s (stepped s c a .next) (plain (Floor (c .label)))) (stepped s c a)
 
 -- controller 0 votes for run 0 and crashes before any F; nothing was confirmed, so it may restart at 0, and votes for both runs
 unfoldable pub crashAtOnce : List Act
@@ -100,7 +101,7 @@ lowered c =
     }
 
 unfoldable pub collectsAgain : Stepping
-collectsAgain s c a = pick (eqb (kind (a .head)) 0 && isIdle (c .phase)) (stepped s (lowered c) a) (stepped s c a)
+collectsAgain s c a = pick (isReading (a .head) && isIdle (c .phase)) (stepped s (lowered c) a) (stepped s c a)
 
 -- controller 0 votes for run 0, V ends its round, it collects the label again and votes for both runs
 unfoldable pub collectedTwice : List Act
@@ -118,7 +119,7 @@ collectedTwice =
 unfoldable pub computesFromHeld : Stepping
 computesFromHeld s c a =
     let r = stepped s c a in
-    pick (isIssue (r .first) || isIssue (r .second))
+    pick (goesOut isIssue r)
     (instead r (adopting (r .next) (r .next .state) (newState (c .label) (c .state) (c .estimates) s (c .held) (c .readings)) Idle)) r
 
 -- controllers 0 and 1 vote for run 0, controller 2 for both; 1 and 2 issue the digest of run 0, each from what it holds
@@ -194,7 +195,7 @@ wrongSays =
 unfoldable pub updatesWhileVoting : Stepping
 updatesWhileVoting s c a =
     let r = stepped s (inPhase c Idle) a in
-    pick (eqb (kind (a .head)) 4 && isVoting (c .phase)) (instead r (inPhase (r .next) Voting)) (stepped s c a)
+    pick (isUpdate (a .head) && isVoting (c .phase)) (instead r (inPhase (r .next) Voting)) (stepped s c a)
 
 -- controller 1 is voting on label 1 when a U of label 1 comes. No S can differ by it, since the chosen state is then not here (13); but the controller is out of range, and all it is handed is 6
 unfoldable pub updatedInside : List Act
