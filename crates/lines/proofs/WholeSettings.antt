@@ -207,7 +207,12 @@ module _ (us : List (List ℕ)) (i : ℕ) (st : Settling) (r : Reached us i st) 
         (λ a. rw a (by-test (eqb (k + 1) 2) (λ b. rw b)
         (λ b.
         let n : k + 1 - 3 ≡ turnOf st → ⊥ = λ e. earlier k i (turnOf st) h (eqb-false (k + 1) 1 a) (eqb-false (k + 1) 2 b) turn-is e in
-        rw (b, getD-set-other (st .settings .certificates) (turnOf st) (k + 1 - 3) (certificateOf (g .cs)) noCertificate n, getD-set-other (st .settings .numbers .factors) (turnOf st) (k + 1 - 3) (word (g .factor)) 0 n, getD-set-other (st .settings .numbers .weights) (turnOf st) (k + 1 - 3) (word (g .weight)) 0 n))))
+        rw (
+          b,
+          getD-set-other (st .settings .certificates) (turnOf st) (k + 1 - 3) (certificateOf (g .cs)) noCertificate n,
+          getD-set-other (st .settings .numbers .factors) (turnOf st) (k + 1 - 3) (word (g .factor)) 0 n,
+          getD-set-other (st .settings .numbers .weights) (turnOf st) (k + 1 - 3) (word (g .weight)) 0 n,
+        ))))
 
     line-new : line ≡ settingLine s′ (2 + i + 1)
     unfolding settingLine pick

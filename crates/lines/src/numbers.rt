@@ -74,12 +74,6 @@ fn wide(n: u32) -> u64
     n as u64
 }
 
-fn long(n: usize) -> u64
-    ensures { λ r. ⌜ r ≡ n ⌝ }
-{
-    n as u64
-}
-
 // The first n of four numbers.
 pub(crate) fn four(n: usize, a: u64, b: u64, c: u64, d: u64) -> Numbers
     requires { ⌜ n ≤ 4 ⌝ }
@@ -98,29 +92,29 @@ pub(crate) fn head_numbers(head: Head) -> Numbers
     ensures { λ r. ⌜ (r .n ≡ length (headValues head)) × (take (r .n) (r .v) ≡ headValues head) × (length (r .v) ≡ 34) ⌝ }
 {
     match head {
-        Head::Reading { label, run, raw } => four(3, wide(label.0), long(run), wide(raw), 0),
+        Head::Reading { label, run, raw } => four(3, label.0 as u64, run as u64, raw as u64, 0),
         Head::Query {
             sender,
             label,
             mask,
-        } => four(3, long(sender), wide(label.0), wide(mask), 0),
+        } => four(3, sender as u64, label.0 as u64, mask as u64, 0),
         Head::Reply {
             sender,
             label,
             mask,
-        } => four(3, long(sender), wide(label.0), wide(mask), 0),
-        Head::Advert { sender, state } => four(2, long(sender), wide(state.0), 0, 0),
-        Head::Update { sender, state } => four(2, long(sender), wide(state.0), 0, 0),
+        } => four(3, sender as u64, label.0 as u64, mask as u64, 0),
+        Head::Advert { sender, state } => four(2, sender as u64, state.0 as u64, 0, 0),
+        Head::Update { sender, state } => four(2, sender as u64, state.0 as u64, 0, 0),
         Head::Vote {
             sender,
             label,
             digest,
         } => four(
             4,
-            long(sender),
-            wide(label.0),
-            wide(digest.state.0),
-            wide(digest.mask),
+            sender as u64,
+            label.0 as u64,
+            digest.state.0 as u64,
+            digest.mask as u64,
         ),
         Head::Setpoints {
             sender,
@@ -128,17 +122,17 @@ pub(crate) fn head_numbers(head: Head) -> Numbers
             digest,
         } => four(
             4,
-            long(sender),
-            wide(label.0),
-            wide(digest.state.0),
-            wide(digest.mask),
+            sender as u64,
+            label.0 as u64,
+            digest.state.0 as u64,
+            digest.mask as u64,
         ),
-        Head::Due { label } => four(1, wide(label.0), 0, 0, 0),
-        Head::CollectingEnds { label } => four(1, wide(label.0), 0, 0, 0),
-        Head::VotingEnds { label } => four(1, wide(label.0), 0, 0, 0),
-        Head::Floor { label } => four(1, wide(label.0), 0, 0, 0),
-        Head::Start { own, floor } => four(2, long(own), wide(floor.0), 0, 0),
-        Head::Refused { number } => four(1, wide(number), 0, 0, 0),
+        Head::Due { label } => four(1, label.0 as u64, 0, 0, 0),
+        Head::CollectingEnds { label } => four(1, label.0 as u64, 0, 0, 0),
+        Head::VotingEnds { label } => four(1, label.0 as u64, 0, 0, 0),
+        Head::Floor { label } => four(1, label.0 as u64, 0, 0, 0),
+        Head::Start { own, floor } => four(2, own as u64, floor.0 as u64, 0, 0),
+        Head::Refused { number } => four(1, number as u64, 0, 0, 0),
     }
 }
 

@@ -23,74 +23,71 @@ pub(crate) fn narrow(n: u64) -> u32
     (n % 4294967296) as u32
 }
 
-fn digest_of(state: u64, mask: u64) -> Digest
-    ensures { λ r. ⌜ r ≡ record { mask = word mask; state = record { 0 = word state } } ⌝ }
-{
-    Digest {
-        mask: narrow(mask),
-        state: StateLabel(narrow(state)),
-    }
-}
-
-fn round_of(n: u64) -> RoundLabel
-    ensures { λ r. ⌜ r ≡ record { 0 = word n } ⌝ }
-{
-    RoundLabel(narrow(n))
-}
-
-fn state_of(n: u64) -> StateLabel
-    ensures { λ r. ⌜ r ≡ record { 0 = word n } ⌝ }
-{
-    StateLabel(narrow(n))
-}
-
 // The head of a line that begins with these numbers.
 fn head_of(kind: Kind, a: u64, b: u64, c: u64, d: u64) -> Head
     ensures { λ r. ⌜ r ≡ headOf kind a b c d ⌝ }
 {
+    let wa = (a % 4294967296) as u32;
+    let wb = (b % 4294967296) as u32;
+    let wc = (c % 4294967296) as u32;
+    let wd = (d % 4294967296) as u32;
     match kind {
         Kind::Reading => Head::Reading {
-            label: round_of(a),
+            label: RoundLabel(wa),
             run: b as usize,
-            raw: narrow(c),
+            raw: wc,
         },
         Kind::Query => Head::Query {
             sender: a as usize,
-            label: round_of(b),
-            mask: narrow(c),
+            label: RoundLabel(wb),
+            mask: wc,
         },
         Kind::Reply => Head::Reply {
             sender: a as usize,
-            label: round_of(b),
-            mask: narrow(c),
+            label: RoundLabel(wb),
+            mask: wc,
         },
         Kind::Advert => Head::Advert {
             sender: a as usize,
-            state: state_of(b),
+            state: StateLabel(wb),
         },
         Kind::Update => Head::Update {
             sender: a as usize,
-            state: state_of(b),
+            state: StateLabel(wb),
         },
         Kind::Vote => Head::Vote {
             sender: a as usize,
-            label: round_of(b),
-            digest: digest_of(c, d),
+            label: RoundLabel(wb),
+            digest: Digest {
+                mask: wd,
+                state: StateLabel(wc),
+            },
         },
         Kind::Setpoints => Head::Setpoints {
             sender: a as usize,
-            label: round_of(b),
-            digest: digest_of(c, d),
+            label: RoundLabel(wb),
+            digest: Digest {
+                mask: wd,
+                state: StateLabel(wc),
+            },
         },
-        Kind::Due => Head::Due { label: round_of(a) },
-        Kind::CollectingEnds => Head::CollectingEnds { label: round_of(a) },
-        Kind::VotingEnds => Head::VotingEnds { label: round_of(a) },
-        Kind::Floor => Head::Floor { label: round_of(a) },
+        Kind::Due => Head::Due {
+            label: RoundLabel(wa),
+        },
+        Kind::CollectingEnds => Head::CollectingEnds {
+            label: RoundLabel(wa),
+        },
+        Kind::VotingEnds => Head::VotingEnds {
+            label: RoundLabel(wa),
+        },
+        Kind::Floor => Head::Floor {
+            label: RoundLabel(wa),
+        },
         Kind::Start => Head::Start {
             own: a as usize,
-            floor: round_of(b),
+            floor: RoundLabel(wb),
         },
-        Kind::Refused => Head::Refused { number: narrow(a) },
+        Kind::Refused => Head::Refused { number: wa },
         Kind::Sizes => Head::Refused { number: 3 },
         Kind::Filter => Head::Refused { number: 3 },
         Kind::Run => Head::Refused { number: 3 },

@@ -4,12 +4,6 @@ use borrow.Author.Needs.{needs}
 use Rattle.lines.proofs.numbers.numbers_of.Statement.{statement}
 use Rattle.lines.proofs.numbers.numbers_of.Tie as tie
 
-carries-requires : tie.Need-carries-requires
-carries-requires c κs = search needs
-
-head-numbers-requires : tie.Need-head-numbers-requires
-head-numbers-requires c κs = search needs
-
 with-readings-requires : tie.Need-with-readings-requires
 with-readings-requires c κs = let z = c .before .before .before .before .before in head-few (z .args .group) (z .args .message) (z .pre) _ (c .before .carries .ensures) _ (c .head-numbers .ensures)
 
@@ -17,18 +11,16 @@ with-estimates-requires : tie.Need-with-estimates-requires
 with-estimates-requires c κs = let z = c .before .before .before .before .before .before in raws-few (z .args .group) (z .args .message) (z .pre) _ (c .before .before .carries .ensures) _ (c .before .head-numbers .ensures) _ (c .with-readings .ensures)
 
 with-targets-requires : tie.Need-with-targets-requires
-with-targets-requires c κs = let z = c .before .before .before .before .before .before .before in floats-few (z .args .group) (z .args .message) (z .pre) _ (c .before .before .before .carries .ensures) _ (c .before .before .head-numbers .ensures) _ (c .before .with-readings .ensures) _ (c .with-estimates .ensures)
+with-targets-requires c κs =
+    let z = c .before .before .before .before .before .before .before in
+    floats-few (z .args .group) (z .args .message) (z .pre) _ (c .before .before .before .carries .ensures) _ (c .before .before .head-numbers .ensures) _ (c .before .with-readings .ensures) _
+    (c .with-estimates .ensures)
 
 returns : tie.Need-returns
-returns c = let z = c .before .before .before .before .before .before .before .before in all-numbers (z .args .group) (z .args .message) (z .pre) _ (c .before .before .before .before .carries .ensures) _ (c .before .before .before .head-numbers .ensures) _ (c .before .before .with-readings .ensures) _ (c .before .with-estimates .ensures) _ (c .with-targets .ensures)
+returns c =
+    let z = c .before .before .before .before .before .before .before .before in
+    all-numbers (z .args .group) (z .args .message) (z .pre) _ (c .before .before .before .before .carries .ensures) _ (c .before .before .before .head-numbers .ensures) _ (c .before .before .with-readings .ensures) _
+    (c .before .with-estimates .ensures) _ (c .with-targets .ensures)
 
 pub numbers-of-spec : {M : Type 1} → statement M
-numbers-of-spec =
-    tie.close
-    (tie.spec
-    carries-requires
-    head-numbers-requires
-    with-readings-requires
-    with-estimates-requires
-    with-targets-requires
-    returns)
+numbers-of-spec = tie.close (tie.spec (search needs) (search needs) with-readings-requires with-estimates-requires with-targets-requires returns)

@@ -16,45 +16,6 @@ Inv-loop m estimates v₀ at₀ i₀ v at i = (i ≤ m) × (at ≡ at₀ + 2 * i
 abbrev μ-loop : tie.MeasureT-loop
 μ-loop m estimates v₀ at₀ i₀ v at i = m - i
 
-loop-holds : tie.Need-loop-holds Inv-loop μ-loop
-loop-holds c = let z = c .before in (omega arith, omega arith, add-start _ _ _ _ (z .pre .2) refl)
-
-mul-e : tie.Need-mul-e Inv-loop μ-loop
-mul-e c = omega arith
-
-array-copy-out-e : tie.Need-array-copy-out-e Inv-loop μ-loop
-array-copy-out-e c = omega arith
-
-bits-of-requires : tie.Need-bits-of-requires Inv-loop μ-loop
-bits-of-requires c κs = search needs
-
-mul-v : tie.Need-mul-v Inv-loop μ-loop
-mul-v c = omega arith
-
-array-write-v : tie.Need-array-write-v Inv-loop μ-loop
-array-write-v c = omega arith
-
-bits-of-requires-2 : tie.Need-bits-of-requires-2 Inv-loop μ-loop
-bits-of-requires-2 c κs = search needs
-
-add-v : tie.Need-add-v Inv-loop μ-loop
-add-v c = omega arith
-
-mul-v-2 : tie.Need-mul-v-2 Inv-loop μ-loop
-mul-v-2 c = omega arith
-
-array-write-v-2 : tie.Need-array-write-v-2 Inv-loop μ-loop
-array-write-v-2 c = omega arith
-
-add-at : tie.Need-add-at Inv-loop μ-loop
-add-at c = omega arith
-
-add-i : tie.Need-add-i Inv-loop μ-loop
-add-i c = omega arith
-
-loop-less : tie.Need-loop-less Inv-loop μ-loop
-loop-less c = omega arith
-
 loop-again : tie.Need-loop-again Inv-loop μ-loop
 loop-again c = let l = c .before .before .before .before .loop in (omega arith, omega arith, add-pair _ _ (l .v) (l .at) (l .i) (l .inv .2) _ _ (omega arith) (sym (rw (c .before .bits-of .ensures, c .bits-of2 .ensures))))
 
@@ -64,21 +25,6 @@ returns c = let l = c .before .loop in let a = c .before .before .before .args i
 pub with-estimates-spec : {M : Type 1} → statement M
 with-estimates-spec =
     tie.close
-    (tie.spec
-    Inv-loop
-    μ-loop
-    loop-holds
-    mul-e
-    array-copy-out-e
-    bits-of-requires
-    mul-v
-    array-write-v
-    bits-of-requires-2
-    add-v
-    mul-v-2
-    array-write-v-2
-    add-at
-    add-i
-    loop-less
-    loop-again
-    returns)
+    (tie.spec Inv-loop μ-loop (λ c. let z = c .before in (omega arith, omega arith, add-start _ _ _ _ (z .pre .2) refl)) (λ c. omega arith)
+    (λ c. omega arith) (search needs) (λ c. omega arith) (λ c. omega arith) (search needs) (λ c. omega arith) (λ c. omega arith) (λ c. omega arith)
+    (λ c. omega arith) (λ c. omega arith) (λ c. omega arith) loop-again returns)

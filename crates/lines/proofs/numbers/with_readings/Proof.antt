@@ -21,38 +21,11 @@ abbrev μ-loop : tie.MeasureT-loop
 returns : tie.Need-returns Inv-loop μ-loop
 returns c = let a = c .before .args in readings-none (a .mask) (a .so .n) (a .t3) (a .so .v) (c .if1 .taken) (c .before .pre .0) (c .before .pre .1)
 
-loop-holds : tie.Need-loop-holds Inv-loop μ-loop
-loop-holds c = let z = c .before .before in (omega arith, omega arith, add-start _ _ _ _ (z .pre .1) refl)
-
-has-requires : tie.Need-has-requires Inv-loop μ-loop
-has-requires c κs = search needs
-
-mul-wide : tie.Need-mul-wide Inv-loop μ-loop
-mul-wide c = omega arith
-
-array-read-wide : tie.Need-array-read-wide Inv-loop μ-loop
-array-read-wide c = omega arith
-
-wide-requires : tie.Need-wide-requires Inv-loop μ-loop
-wide-requires c κs = search needs
-
-mul-v : tie.Need-mul-v Inv-loop μ-loop
-mul-v c = omega arith
-
-array-write-v : tie.Need-array-write-v Inv-loop μ-loop
-array-write-v c = omega arith
-
-add-at : tie.Need-add-at Inv-loop μ-loop
-add-at c = omega arith
-
-add-i : tie.Need-add-i Inv-loop μ-loop
-add-i c = omega arith
-
-loop-less : tie.Need-loop-less Inv-loop μ-loop
-loop-less c = omega arith
-
 loop-again : tie.Need-loop-again Inv-loop μ-loop
-loop-again c = let h = c .before in let l = h .before .before .loop in let a = c .before .before .before .before .before .before .args in ⊎-elim (λ w. (omega arith, omega (arith, w .3), readings-here (a .mask) (a .t3) _ (l .v) (l .at) (l .i) (l .inv .2) _ (h .has .ensures) _ _ _ (w .0 .taken) (omega arith) (w .1 .ensures) (w .2) (w .3))) (λ w. (omega arith, omega (arith, w .2), readings-not (a .mask) (a .t3) _ (l .v) (l .at) (l .i) (l .inv .2) _ (h .has .ensures) _ _ (w .0 .left) (w .1) (w .2))) (c .if2 .came)
+loop-again c =
+    let h = c .before in let l = h .before .before .loop in let a = c .before .before .before .before .before .before .args in
+    ⊎-elim (λ w. (omega arith, omega (arith, w .3), readings-here (a .mask) (a .t3) _ (l .v) (l .at) (l .i) (l .inv .2) _ (h .has .ensures) _ _ _ (w .0 .taken) (omega arith) (w .1 .ensures) (w .2) (w .3)))
+    (λ w. (omega arith, omega (arith, w .2), readings-not (a .mask) (a .t3) _ (l .v) (l .at) (l .i) (l .inv .2) _ (h .has .ensures) _ _ (w .0 .left) (w .1) (w .2))) (c .if2 .came)
 
 returns-2 : tie.Need-returns-2 Inv-loop μ-loop
 returns-2 c = let l = c .before .loop in let a = c .before .before .before .before .args in readings-all (a .mask) (a .t3) _ (l .v) (l .at) (l .i) (l .inv .2) (omega arith) (omega (arith, l .inv .0, c .loop-test .left))
@@ -60,19 +33,6 @@ returns-2 c = let l = c .before .loop in let a = c .before .before .before .befo
 pub with-readings-spec : {M : Type 1} → statement M
 with-readings-spec =
     tie.close
-    (tie.spec
-    Inv-loop
-    μ-loop
-    returns
-    loop-holds
-    has-requires
-    mul-wide
-    array-read-wide
-    wide-requires
-    mul-v
-    array-write-v
-    add-at
-    add-i
-    loop-less
-    loop-again
-    returns-2)
+    (tie.spec Inv-loop μ-loop returns (λ c. let z = c .before .before in (omega arith, omega arith, add-start _ _ _ _ (z .pre .1) refl))
+    (search needs) (λ c. omega arith) (λ c. omega arith) (search needs) (λ c. omega arith) (λ c. omega arith) (λ c. omega arith) (λ c. omega arith)
+    (λ c. omega arith) loop-again returns-2)

@@ -19,33 +19,6 @@ Inv-loop m targets v₀ at₀ i₀ v at i = (i ≤ m) × (at ≡ at₀ + i) × A
 abbrev μ-loop : tie.MeasureT-loop
 μ-loop m targets v₀ at₀ i₀ v at i = m - i
 
-loop-holds : tie.Need-loop-holds Inv-loop μ-loop
-loop-holds c = let z = c .before in (omega arith, omega arith, add-start _ _ _ _ (z .pre .2) refl)
-
-mul-bits-of : tie.Need-mul-bits-of Inv-loop μ-loop
-mul-bits-of c = omega arith
-
-array-read-bits-of : tie.Need-array-read-bits-of Inv-loop μ-loop
-array-read-bits-of c = omega arith
-
-bits-of-requires : tie.Need-bits-of-requires Inv-loop μ-loop
-bits-of-requires c κs = search needs
-
-mul-v : tie.Need-mul-v Inv-loop μ-loop
-mul-v c = omega arith
-
-array-write-v : tie.Need-array-write-v Inv-loop μ-loop
-array-write-v c = omega arith
-
-add-at : tie.Need-add-at Inv-loop μ-loop
-add-at c = omega arith
-
-add-i : tie.Need-add-i Inv-loop μ-loop
-add-i c = omega arith
-
-loop-less : tie.Need-loop-less Inv-loop μ-loop
-loop-less c = omega arith
-
 loop-again : tie.Need-loop-again Inv-loop μ-loop
 loop-again c = let l = c .before .before .loop in (omega arith, omega arith, add-value _ _ (l .v) (l .at) (l .i) (l .inv .2) _ (omega arith) (sym (ap (λ (y : ℕ). y ∷ []) (c .bits-of .ensures))))
 
@@ -55,17 +28,6 @@ returns c = let l = c .before .loop in let a = c .before .before .before .args i
 pub with-targets-spec : {M : Type 1} → statement M
 with-targets-spec =
     tie.close
-    (tie.spec
-    Inv-loop
-    μ-loop
-    loop-holds
-    mul-bits-of
-    array-read-bits-of
-    bits-of-requires
-    mul-v
-    array-write-v
-    add-at
-    add-i
-    loop-less
-    loop-again
+    (tie.spec Inv-loop μ-loop (λ c. let z = c .before in (omega arith, omega arith, add-start _ _ _ _ (z .pre .2) refl)) (λ c. omega arith)
+    (λ c. omega arith) (search needs) (λ c. omega arith) (λ c. omega arith) (λ c. omega arith) (λ c. omega arith) (λ c. omega arith) loop-again
     returns)

@@ -4,20 +4,8 @@ use borrow.Author.Needs.{needs}
 use Rattle.lines.proofs.read.kind_in.Statement.{statement}
 use Rattle.lines.proofs.read.kind_in.Tie as tie
 
-ends-at-requires : tie.Need-ends-at-requires
-ends-at-requires c κs = search needs
-
-returns : tie.Need-returns
-returns c = kind-none _ _ (c .before .ends-at .ensures) (c .if1 .taken)
-
-ends-at-requires-2 : tie.Need-ends-at-requires-2
-ends-at-requires-2 c κs = search needs
-
 shared-slice-read-kind-of : tie.Need-shared-slice-read-kind-of
 shared-slice-read-kind-of c = open-within _ _ (c .before .before .before .before .ends-at .ensures) (c .before .before .before .if1 .left)
-
-kind-of-requires : tie.Need-kind-of-requires
-kind-of-requires c κs = search needs
 
 returns-2 : tie.Need-returns-2
 returns-2 c = kind-one _ _ (c .before .before .before .before .before .ends-at .ensures) _ (c .before .before .before .ends-at2 .ensures) (c .before .before .before .before .if1 .left) _ (c .before .before .if2 .taken) (c .kind-of .ensures)
@@ -28,11 +16,5 @@ returns-3 c = kind-more _ _ (c .before .before .before .ends-at .ensures) _ (c .
 pub kind-in-spec : {M : Type 1} → statement M
 kind-in-spec =
     tie.close
-    (tie.spec
-    ends-at-requires
-    returns
-    ends-at-requires-2
-    shared-slice-read-kind-of
-    kind-of-requires
-    returns-2
-    returns-3)
+    (tie.spec (search needs) (λ c. kind-none _ _ (c .before .ends-at .ensures) (c .if1 .taken)) (search needs) shared-slice-read-kind-of
+    (search needs) returns-2 returns-3)

@@ -7,55 +7,28 @@ use borrow.Author.Needs.{needs}
 use Rattle.lines.proofs.read.read.Statement.{statement}
 use Rattle.lines.proofs.read.read.Tie as tie
 
-in-range-requires : tie.Need-in-range-requires
-in-range-requires c κs = search needs
-
-refused-requires : tie.Need-refused-requires
-refused-requires c κs = search needs
-
 returns : tie.Need-returns
 returns c = let a = c .before .before .before .before .args in line-group (a .group) (a .line .now) _ _ (c .before .before .in-range .ensures) (c .before .if1 .taken) (c .refused .ensures)
-
-refused-requires-2 : tie.Need-refused-requires-2
-refused-requires-2 c κs = search needs
 
 returns-2 : tie.Need-returns-2
 returns-2 c = let a = c .before .before .before .before .before .args in line-long (a .group) (a .line .now) _ _ (c .before .before .before .in-range .ensures) (c .before .before .if1 .left) (c .before .if2 .taken) (c .refused2 .ensures)
 
-scan-requires : tie.Need-scan-requires
-scan-requires c κs = search needs
-
-add-if3 : tie.Need-add-if3
-add-if3 c = omega (arith, scan-inside _ _ (c .scan .ensures), c .before .if2 .left)
-
-refused-requires-3 : tie.Need-refused-requires-3
-refused-requires-3 c κs = search needs
-
 returns-3 : tie.Need-returns-3
-returns-3 c = let a = c .before .before .before .before .before .before .before .args in line-unended (a .group) (a .line .now) _ _ (c .before .before .before .before .before .in-range .ensures) (c .before .before .before .before .if1 .left) (c .before .before .before .if2 .left) _ (c .before .before .scan .ensures) (c .before .if3 .taken) (c .refused3 .ensures)
-
-slice-aggregate-read-text : tie.Need-slice-aggregate-read-text
-slice-aggregate-read-text c = sym (length-take-le _ _ (scan-inside _ _ (c .before .before .scan .ensures)))
-
-read-text-requires : tie.Need-read-text-requires
-read-text-requires c κs = text-tabs _ _ (c .before .before .scan .ensures)
+returns-3 c =
+    let a = c .before .before .before .before .before .before .before .args in
+    line-unended (a .group) (a .line .now) _ _ (c .before .before .before .before .before .in-range .ensures) (c .before .before .before .before .if1 .left) (c .before .before .before .if2 .left) _
+    (c .before .before .scan .ensures) (c .before .if3 .taken) (c .refused3 .ensures)
 
 returns-4 : tie.Need-returns-4
-returns-4 c = let a = c .before .before .before .before .before .before .before .before .args in line-text (a .group) (a .line .now) _ _ (c .before .before .before .before .before .before .in-range .ensures) (c .before .before .before .before .before .if1 .left) (c .before .before .before .before .if2 .left) _ (c .before .before .before .scan .ensures) (c .before .before .if3 .left) (c .read-text .ensures)
+returns-4 c =
+    let a = c .before .before .before .before .before .before .before .before .args in
+    line-text (a .group) (a .line .now) _ _ (c .before .before .before .before .before .before .in-range .ensures) (c .before .before .before .before .before .if1 .left) (c .before .before .before .before .if2 .left) _
+    (c .before .before .before .scan .ensures) (c .before .before .if3 .left) (c .read-text .ensures)
 
 pub read-spec : {M : Type 1} → statement M
 read-spec =
     tie.close
-    (tie.spec
-    in-range-requires
-    refused-requires
-    returns
-    refused-requires-2
-    returns-2
-    scan-requires
-    add-if3
-    refused-requires-3
-    returns-3
-    slice-aggregate-read-text
-    read-text-requires
+    (tie.spec (search needs) (search needs) returns (search needs) returns-2 (search needs)
+    (λ c. omega (arith, scan-inside _ _ (c .scan .ensures), c .before .if2 .left)) (search needs) returns-3
+    (λ c. sym (length-take-le _ _ (scan-inside _ _ (c .before .before .scan .ensures)))) (λ c κs. text-tabs _ _ (c .before .before .scan .ensures))
     returns-4)

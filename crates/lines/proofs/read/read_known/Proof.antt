@@ -6,21 +6,6 @@ use borrow.Author.Needs.{needs}
 use Rattle.lines.proofs.read.read_known.Statement.{statement}
 use Rattle.lines.proofs.read.read_known.Tie as tie
 
-read-values-requires : tie.Need-read-values-requires
-read-values-requires c κs = let s = c .before .before in (fields-are _ _ (s .pre .0), here-start _ (s .pre .1), none-read, refl)
-
-enum-told : tie.Need-enum-told
-enum-told c = search needs
-
-message-of-requires : tie.Need-message-of-requires
-message-of-requires c κs = search needs
-
-enum-known-why : tie.Need-enum-known-why
-enum-known-why c = search needs
-
-refused-requires : tie.Need-refused-requires
-refused-requires c κs = search needs
-
 returns : tie.Need-returns
 returns c = let a = c .before .before .before .before .before .before .before .args in known-taken (a .kind) (a .group) (a .text .now) _ _ (c .before .before .before .before .read-values .ensures) _ (c .before .before .enum-told .given .1) (c .message-of .ensures)
 
@@ -30,11 +15,5 @@ returns-2 c = let a = c .before .before .before .before .before .before .before 
 pub read-known-spec : {M : Type 1} → statement M
 read-known-spec =
     tie.close
-    (tie.spec
-    read-values-requires
-    enum-told
-    message-of-requires
-    enum-known-why
-    refused-requires
-    returns
-    returns-2)
+    (tie.spec (λ c κs. let s = c .before .before in (fields-are _ _ (s .pre .0), here-start _ (s .pre .1), none-read, refl)) (search needs)
+    (search needs) (search needs) (search needs) returns returns-2)

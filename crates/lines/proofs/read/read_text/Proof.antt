@@ -5,20 +5,8 @@ use borrow.Author.Needs.{needs}
 use Rattle.lines.proofs.read.read_text.Statement.{statement}
 use Rattle.lines.proofs.read.read_text.Tie as tie
 
-kind-in-requires : tie.Need-kind-in-requires
-kind-in-requires c κs = search needs
-
-enum-known-kind : tie.Need-enum-known-kind
-enum-known-kind c = search needs
-
 read-known-requires : tie.Need-read-known-requires
 read-known-requires c κs = let s = c .before .before .before .before .before in (s .pre, known-short (firstField (s .args .text .now)) _ _ (c .before .before .before .kind-in .ensures) (c .before .kind .given .1))
-
-enum-told : tie.Need-enum-told
-enum-told c = search needs
-
-refused-requires : tie.Need-refused-requires
-refused-requires c κs = search needs
 
 returns : tie.Need-returns
 returns c = let a = c .before .before .before .before .before .before .args in text-known (a .group) (a .text .now) _ _ (c .before .before .before .before .kind-in .ensures) _ (c .before .before .kind .given .1) (c .read-known .ensures)
@@ -27,13 +15,4 @@ returns-2 : tie.Need-returns-2
 returns-2 c = let a = c .before .before .before .before .before .args in text-unknown (a .group) (a .text .now) _ _ (c .before .before .before .kind-in .ensures) (c .before .enum-told .given .1) (c .refused .ensures)
 
 pub read-text-spec : {M : Type 1} → statement M
-read-text-spec =
-    tie.close
-    (tie.spec
-    kind-in-requires
-    enum-known-kind
-    read-known-requires
-    enum-told
-    refused-requires
-    returns
-    returns-2)
+read-text-spec = tie.close (tie.spec (search needs) (search needs) read-known-requires (search needs) (search needs) returns returns-2)

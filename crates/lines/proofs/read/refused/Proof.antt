@@ -10,14 +10,8 @@ use borrow.Author.Needs.{needs}
 use Rattle.lines.proofs.read.refused.Statement.{statement}
 use Rattle.lines.proofs.read.refused.Tie as tie
 
-number-requires : tie.Need-number-requires
-number-requires c κs = search needs
-
-plain-requires : tie.Need-plain-requires
-plain-requires c κs = search needs
-
 returns : tie.Need-returns
 returns c = ap {B = Line} (λ (m : Message). record { verdict = Refused (c .before .before .args .why); message = m }) (c .plain .ensures ∙ ap (λ (n : ℕ). plain (HeadRefused n)) (c .before .number .ensures))
 
 pub refused-spec : {M : Type 1} → statement M
-refused-spec = tie.close (tie.spec number-requires plain-requires returns)
+refused-spec = tie.close (tie.spec (search needs) (search needs) returns)

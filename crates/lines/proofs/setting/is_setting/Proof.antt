@@ -5,9 +5,6 @@ use borrow.Author.Needs.{needs}
 use Rattle.lines.proofs.setting.is_setting.Statement.{statement}
 use Rattle.lines.proofs.setting.is_setting.Tie as tie
 
-in-range-requires : tie.Need-in-range-requires
-in-range-requires c κs = search needs
-
 returns : tie.Need-returns
 returns c = setting-none (c .before .before .args .settings) (c .before .before .args .k) _ (c .before .in-range .ensures) (c .if1 .taken)
 
@@ -18,4 +15,4 @@ returns-2 : tie.Need-returns-2
 returns-2 c = setting-some (c .before .before .args .settings) (c .before .before .args .k) _ (c .before .in-range .ensures) (c .if1 .left)
 
 pub is-setting-spec : {M : Type 1} → statement M
-is-setting-spec = tie.close (tie.spec in-range-requires returns add-result returns-2)
+is-setting-spec = tie.close (tie.spec (search needs) returns add-result returns-2)

@@ -11,35 +11,14 @@ use borrow.Author.Needs.{needs}
 use Rattle.lines.proofs.setting.put_certificate.Statement.{statement}
 use Rattle.lines.proofs.setting.put_certificate.Tie as tie
 
-slice-write-buf : tie.Need-slice-write-buf
-slice-write-buf c = search needs
-
-add-put-part : tie.Need-add-put-part
-add-put-part c = search needs
-
-array-share-prefix-bytes : tie.Need-array-share-prefix-bytes
-array-share-prefix-bytes c = search needs
-
-slice-aggregate-put-part : tie.Need-slice-aggregate-put-part
-slice-aggregate-put-part c = sym (length-take-le _ _ (omega (arith, c .before .before .before .before .pre)))
-
-put-part-requires : tie.Need-put-part-requires
-put-part-requires c κs = search needs
-
-same-length : tie.Need-same-length
-same-length c = c .before .before .put-part .kept .0 ∙ simp length-set
-
 returns : tie.Need-returns
-returns c = let z = c .before .before .before .before .before .before .before in let a = z .args in let p = c .before .before .put-part .ensures in let n = length-take-le (a .certificate .len) (a .certificate .bytes) (omega (arith, z .pre)) in let h : a .at + (1 + length (bytesOf (a .certificate))) ≤ length (a .buf .now) = omega (arith, z .pre .2) in tab-put (a .buf .now) (a .at) (bytesOf (a .certificate)) h _ _ (p .0) (p .1)
+returns c =
+    let z = c .before .before .before .before .before .before .before in let a = z .args in let p = c .before .before .put-part .ensures in
+    let n = length-take-le (a .certificate .len) (a .certificate .bytes) (omega (arith, z .pre)) in let h : a .at + (1 + length (bytesOf (a .certificate))) ≤ length (a .buf .now) = omega (arith, z .pre .2) in
+    tab-put (a .buf .now) (a .at) (bytesOf (a .certificate)) h _ _ (p .0) (p .1)
 
 pub put-certificate-spec : {M : Type 1} → statement M
 put-certificate-spec =
     tie.close
-    (tie.spec
-    slice-write-buf
-    add-put-part
-    array-share-prefix-bytes
-    slice-aggregate-put-part
-    put-part-requires
-    same-length
-    returns)
+    (tie.spec (search needs) (search needs) (search needs) (λ c. sym (length-take-le _ _ (omega (arith, c .before .before .before .before .pre))))
+    (search needs) (λ c. c .before .before .put-part .kept .0 ∙ simp length-set) returns)

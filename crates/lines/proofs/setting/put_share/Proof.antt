@@ -6,17 +6,11 @@ use borrow.Author.Needs.{needs}
 use Rattle.lines.proofs.setting.put_share.Statement.{statement}
 use Rattle.lines.proofs.setting.put_share.Tie as tie
 
-put-field-requires : tie.Need-put-field-requires
-put-field-requires c κs = search needs
-
-put-field-requires-2 : tie.Need-put-field-requires-2
-put-field-requires-2 c κs = search needs
-
-same-length : tie.Need-same-length
-same-length c = search needs
-
 returns : tie.Need-returns
-returns c = let a = c .before .before .before .before .before .before .before .before .before .args in rw (← share-is (a .factor) (a .weight)) (tabs-put (a .buf .now) _ _ (written Factor (a .factor)) (written Decimal (a .weight)) (a .at) _ _ (c .before .before .before .before .before .before .put-field .ensures) (c .before .before .put-field2 .ensures))
+returns c =
+    let a = c .before .before .before .before .before .before .before .before .before .args in
+    rw (← share-is (a .factor) (a .weight))
+    (tabs-put (a .buf .now) _ _ (written Factor (a .factor)) (written Decimal (a .weight)) (a .at) _ _ (c .before .before .before .before .before .before .put-field .ensures) (c .before .before .put-field2 .ensures))
 
 pub put-share-spec : {M : Type 1} → statement M
-put-share-spec = tie.close (tie.spec put-field-requires put-field-requires-2 same-length returns)
+put-share-spec = tie.close (tie.spec (search needs) (search needs) (search needs) returns)

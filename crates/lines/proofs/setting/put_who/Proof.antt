@@ -7,17 +7,11 @@ use borrow.Author.Needs.{needs}
 use Rattle.lines.proofs.setting.put_who.Statement.{statement}
 use Rattle.lines.proofs.setting.put_who.Tie as tie
 
-put-field-requires : tie.Need-put-field-requires
-put-field-requires c κs = search needs
-
-put-certificate-requires : tie.Need-put-certificate-requires
-put-certificate-requires c κs = search needs
-
-same-length : tie.Need-same-length
-same-length c = search needs
-
 returns : tie.Need-returns
-returns c = let a = c .before .before .before .before .before .before .before .before .before .args in rw (← who-is (a .run) (bytesOf (a .certificate))) (tabs-put (a .buf .now) _ _ (written Decimal (a .run)) (bytesOf (a .certificate)) 1 _ _ (c .before .before .before .before .before .before .put-field .ensures) (c .before .before .put-certificate .ensures))
+returns c =
+    let a = c .before .before .before .before .before .before .before .before .before .args in
+    rw (← who-is (a .run) (bytesOf (a .certificate)))
+    (tabs-put (a .buf .now) _ _ (written Decimal (a .run)) (bytesOf (a .certificate)) 1 _ _ (c .before .before .before .before .before .before .put-field .ensures) (c .before .before .put-certificate .ensures))
 
 pub put-who-spec : {M : Type 1} → statement M
-put-who-spec = tie.close (tie.spec put-field-requires put-certificate-requires same-length returns)
+put-who-spec = tie.close (tie.spec (search needs) (search needs) (search needs) returns)

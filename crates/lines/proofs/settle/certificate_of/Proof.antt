@@ -16,45 +16,17 @@ Inv-loop text from to len bytes₀ i₀ bytes i = (i ≤ len) × (len ≡ to - f
 abbrev μ-loop : tie.MeasureT-loop
 μ-loop text from to len bytes₀ i₀ bytes i = len - i
 
-sub-len : tie.Need-sub-len Inv-loop μ-loop
-sub-len c = search needs
-
-loop-holds : tie.Need-loop-holds Inv-loop μ-loop
-loop-holds c = (omega arith, refl, fill-start _ 0 0)
-
-add-bytes : tie.Need-add-bytes Inv-loop μ-loop
-add-bytes c = omega arith
-
-shared-slice-read-bytes : tie.Need-shared-slice-read-bytes Inv-loop μ-loop
-shared-slice-read-bytes c = omega arith
-
-array-write-bytes : tie.Need-array-write-bytes Inv-loop μ-loop
-array-write-bytes c = omega arith
-
-add-i : tie.Need-add-i Inv-loop μ-loop
-add-i c = omega arith
-
-loop-less : tie.Need-loop-less Inv-loop μ-loop
-loop-less c = omega arith
-
 loop-again : tie.Need-loop-again Inv-loop μ-loop
 loop-again c = let l = c .before .before .loop in let a = c .before .before .before .args in (omega arith, l .inv .1, fill-more _ 0 0 (l .bytes) (l .i) _ (l .inv .2) (omega arith) (byte-is (a .text .now) (a .from) (a .to) (l .i) (omega arith)))
 
 returns : tie.Need-returns Inv-loop μ-loop
-returns c = let l = c .before .loop in let z = c .before .before in let a = z .args in certificate-made (a .text .now) (a .from) (a .to) _ _ (z .pre .0) (z .pre .1) (l .inv .1) (fill-done _ 0 0 (l .bytes) (l .i) (l .inv .2) (bytes-left (a .text .now) (a .from) (a .to) (z .pre .0) (z .pre .1) (l .i) (omega arith)))
+returns c =
+    let l = c .before .loop in let z = c .before .before in let a = z .args in
+    certificate-made (a .text .now) (a .from) (a .to) _ _ (z .pre .0) (z .pre .1) (l .inv .1)
+    (fill-done _ 0 0 (l .bytes) (l .i) (l .inv .2) (bytes-left (a .text .now) (a .from) (a .to) (z .pre .0) (z .pre .1) (l .i) (omega arith)))
 
 pub certificate-of-spec : {M : Type 1} → statement M
 certificate-of-spec =
     tie.close
-    (tie.spec
-    Inv-loop
-    μ-loop
-    sub-len
-    loop-holds
-    add-bytes
-    shared-slice-read-bytes
-    array-write-bytes
-    add-i
-    loop-less
-    loop-again
-    returns)
+    (tie.spec Inv-loop μ-loop (search needs) (λ c. (omega arith, refl, fill-start _ 0 0)) (λ c. omega arith) (λ c. omega arith) (λ c. omega arith)
+    (λ c. omega arith) (λ c. omega arith) loop-again returns)

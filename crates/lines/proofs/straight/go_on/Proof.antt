@@ -16,26 +16,11 @@ abbrev μ-loop : tie.MeasureT-loop
 loop-holds : tie.Need-loop-holds Inv-loop μ-loop
 loop-holds c = record { after = omega arith; before-end = search needs; room = search needs; trod = c .before .pre .2; kept = λ i h. refl }
 
-is-at-requires : tie.Need-is-at-requires Inv-loop μ-loop
-is-at-requires c κs = search needs
-
 returns : tie.Need-returns Inv-loop μ-loop
 returns c = let h = c .before .before .before in let a = h .before .before .args in tread-stop (a .kind) (a .group) (a .input .now) (a .v .now) (a .from) (a .to) (h .loop .v) (h .loop .at) (h .loop .k) (h .loop .inv) _
 
-label-in-requires : tie.Need-label-in-requires Inv-loop μ-loop
-label-in-requires c κs = search needs
-
-limit-of-requires : tie.Need-limit-of-requires Inv-loop μ-loop
-limit-of-requires c κs = search needs
-
 add-read-here : tie.Need-add-read-here Inv-loop μ-loop
 add-read-here c = let w = c .before .before .before .before .before .before .loop .inv in omega (arith, w .trod .inside)
-
-read-here-requires : tie.Need-read-here-requires Inv-loop μ-loop
-read-here-requires c κs = search needs
-
-enum-known-n : tie.Need-enum-known-n Inv-loop μ-loop
-enum-known-n c = search needs
 
 mul-v : tie.Need-mul-v Inv-loop μ-loop
 mul-v c = let w = c .before .before .before .before .before .before .before .before .before .before .loop .inv in omega arith
@@ -43,14 +28,8 @@ mul-v c = let w = c .before .before .before .before .before .before .before .bef
 element-write-v : tie.Need-element-write-v Inv-loop μ-loop
 element-write-v c = let w = c .before .before .before .before .before .before .before .before .before .before .loop .inv in omega arith
 
-enum-told : tie.Need-enum-told Inv-loop μ-loop
-enum-told c = search needs
-
 returns-2 : tie.Need-returns-2 Inv-loop μ-loop
 returns-2 c = let h = c .before .before .before .before .before .before .before .before .before in let a = h .before .before .args in tread-stop (a .kind) (a .group) (a .input .now) (a .v .now) (a .from) (a .to) (h .loop .v) (h .loop .at) (h .loop .k) (h .loop .inv) _
-
-enum-told-2 : tie.Need-enum-told-2 Inv-loop μ-loop
-enum-told-2 c = search needs
 
 returns-3 : tie.Need-returns-3 Inv-loop μ-loop
 returns-3 c = let h = c .before .before .before .before .before .before .before .before .before in let a = h .before .before .args in tread-stop (a .kind) (a .group) (a .input .now) (a .v .now) (a .from) (a .to) (h .loop .v) (h .loop .at) (h .loop .k) (h .loop .inv) _
@@ -62,7 +41,11 @@ loop-less : tie.Need-loop-less Inv-loop μ-loop
 loop-less c = let w = c .before .before .before .before .before .before .before .before .before .before .loop .inv in omega arith
 
 loop-again : tie.Need-loop-again Inv-loop μ-loop
-loop-again c = let r = c .before .before .before in let h = r .before .before .before .before .before .before .before in let a = h .before .before .args in tread-more (a .kind) (a .group) (a .input .now) (a .v .now) (a .from) (a .to) (h .loop .v) (h .loop .at) (h .loop .k) (h .loop .inv) (r .before .before .before .before .before .before .loop-test .taken) _ (r .before .before .before .before .before .is-at .ensures) (r .before .before .before .before .if1 .left) (r .before .before .label-in .result) (r .before .limit-of .result) (r .read-here .result) (r .before .before .label-in .ensures) (r .before .limit-of .ensures) (r .read-here .ensures) _ _ (c .before .n .given .1)
+loop-again c =
+    let r = c .before .before .before in let h = r .before .before .before .before .before .before .before in let a = h .before .before .args in
+    tread-more (a .kind) (a .group) (a .input .now) (a .v .now) (a .from) (a .to) (h .loop .v) (h .loop .at) (h .loop .k) (h .loop .inv) (r .before .before .before .before .before .before .loop-test .taken) _
+    (r .before .before .before .before .before .is-at .ensures) (r .before .before .before .before .if1 .left) (r .before .before .label-in .result) (r .before .limit-of .result) (r .read-here .result)
+    (r .before .before .label-in .ensures) (r .before .limit-of .ensures) (r .read-here .ensures) _ _ (c .before .n .given .1)
 
 returns-4 : tie.Need-returns-4 Inv-loop μ-loop
 returns-4 c = let h = c .before in let a = h .before .before .args in tread-end (a .kind) (a .group) (a .input .now) (a .v .now) (a .from) (a .to) (h .loop .v) (h .loop .at) (h .loop .k) (h .loop .inv) (c .loop-test .left)
@@ -70,24 +53,5 @@ returns-4 c = let h = c .before in let a = h .before .before .args in tread-end 
 pub go-on-spec : {M : Type 1} → statement M
 go-on-spec =
     tie.close
-    (tie.spec
-    Inv-loop
-    μ-loop
-    loop-holds
-    is-at-requires
-    returns
-    label-in-requires
-    limit-of-requires
-    add-read-here
-    read-here-requires
-    enum-known-n
-    mul-v
-    element-write-v
-    enum-told
-    returns-2
-    enum-told-2
-    returns-3
-    add-k
-    loop-less
-    loop-again
-    returns-4)
+    (tie.spec Inv-loop μ-loop loop-holds (search needs) returns (search needs) (search needs) add-read-here (search needs) (search needs) mul-v
+    element-write-v (search needs) returns-2 (search needs) returns-3 add-k loop-less loop-again returns-4)

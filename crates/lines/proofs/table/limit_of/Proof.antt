@@ -5,14 +5,5 @@ use borrow.Author.Needs.{needs}
 use Rattle.lines.proofs.table.limit_of.Statement.{statement}
 use Rattle.lines.proofs.table.limit_of.Tie as tie
 
-quantity-at-requires : tie.Need-quantity-at-requires
-quantity-at-requires c κs = search needs
-
-bounds-requires : tie.Need-bounds-requires
-bounds-requires c κs = search needs
-
-returns : tie.Need-returns
-returns c = limit-at _ _ (sym (c .before .quantity-at .ensures)) (c .bounds .ensures)
-
 pub limit-of-spec : {M : Type 1} → statement M
-limit-of-spec = tie.close (tie.spec quantity-at-requires bounds-requires returns)
+limit-of-spec = tie.close (tie.spec (search needs) (search needs) (λ c. limit-at _ _ (sym (c .before .quantity-at .ensures)) (c .bounds .ensures)))

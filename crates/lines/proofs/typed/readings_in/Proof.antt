@@ -20,38 +20,23 @@ abbrev μ-loop : tie.MeasureT-loop
 returns : tie.Need-returns Inv-loop μ-loop
 returns c = fill-done _ 0 0 _ 0 (fill-start (readingIn (c .before .args .mask) (c .before .args .v .now)) 0 0) (λ j h l. no-readings (c .before .args .mask) (c .before .args .v .now) j (c .if1 .taken))
 
-loop-holds : tie.Need-loop-holds Inv-loop μ-loop
-loop-holds c = (omega arith, at-start _, fill-start _ 0 0)
-
-has-requires : tie.Need-has-requires Inv-loop μ-loop
-has-requires c κs = search needs
-
 mul-n : tie.Need-mul-n Inv-loop μ-loop
 mul-n c = let l = c .before .before .loop in let f = at-few (c .before .before .before .before .args .mask) (l .out) (l .out) (l .at) (l .i) _ 0 (l .inv .1) refl (l .inv .0) in omega arith
 
 element-copy-out-n : tie.Need-element-copy-out-n Inv-loop μ-loop
 element-copy-out-n c = let l = c .before .before .loop in let f = at-few (c .before .before .before .before .args .mask) (l .out) (l .out) (l .at) (l .i) _ 0 (l .inv .1) refl (l .inv .0) in omega arith
 
-raw-where-requires : tie.Need-raw-where-requires Inv-loop μ-loop
-raw-where-requires c κs = search needs
-
-mul-out : tie.Need-mul-out Inv-loop μ-loop
-mul-out c = omega arith
-
-array-write-out : tie.Need-array-write-out Inv-loop μ-loop
-array-write-out c = omega arith
-
 one-more-requires : tie.Need-one-more-requires Inv-loop μ-loop
 one-more-requires c κs = let l = c .before .before .before .before .loop in let f = at-few (c .before .before .before .before .before .before .args .mask) (l .out) (l .out) (l .at) (l .i) _ 0 (l .inv .1) refl (l .inv .0) in omega arith
 
-add-i : tie.Need-add-i Inv-loop μ-loop
-add-i c = omega arith
-
-loop-less : tie.Need-loop-less Inv-loop μ-loop
-loop-less c = omega arith
-
 loop-again : tie.Need-loop-again Inv-loop μ-loop
-loop-again c = let h = c .before .before .before in let l = h .before .before .loop in let a = h .before .before .before .before .args in (omega arith, at-more (a .mask) (a .v .now) (l .out) (l .at) (l .i) _ 0 (l .inv .1) (h .has .ensures) _ (c .one-more .ensures), fill-more _ 0 0 (l .out) (l .i) _ (l .inv .2) (h .before .loop-test .taken) (raw-made (a .mask) (a .v .now) (l .out) (l .at) (l .i) _ _ (l .inv .1) (h .has .ensures) (c .before .raw-where .ensures)))
+loop-again c =
+    let h = c .before .before .before in let l = h .before .before .loop in let a = h .before .before .before .before .args in (
+      omega arith,
+      at-more (a .mask) (a .v .now) (l .out) (l .at) (l .i) _ 0 (l .inv .1) (h .has .ensures) _ (c .one-more .ensures),
+      fill-more _ 0 0 (l .out) (l .i) _ (l .inv .2) (h .before .loop-test .taken)
+          (raw-made (a .mask) (a .v .now) (l .out) (l .at) (l .i) _ _ (l .inv .1) (h .has .ensures) (c .before .raw-where .ensures)),
+    )
 
 returns-2 : tie.Need-returns-2 Inv-loop μ-loop
 returns-2 c = let l = c .before .loop in fill-done _ 0 0 (l .out) (l .i) (l .inv .2) (λ j h k. absurd (omega (arith, c .loop-test .left)))
@@ -59,19 +44,5 @@ returns-2 c = let l = c .before .loop in fill-done _ 0 0 (l .out) (l .i) (l .inv
 pub readings-in-spec : {M : Type 1} → statement M
 readings-in-spec =
     tie.close
-    (tie.spec
-    Inv-loop
-    μ-loop
-    returns
-    loop-holds
-    has-requires
-    mul-n
-    element-copy-out-n
-    raw-where-requires
-    mul-out
-    array-write-out
-    one-more-requires
-    add-i
-    loop-less
-    loop-again
-    returns-2)
+    (tie.spec Inv-loop μ-loop returns (λ c. (omega arith, at-start _, fill-start _ 0 0)) (search needs) mul-n element-copy-out-n (search needs)
+    (λ c. omega arith) (λ c. omega arith) one-more-requires (λ c. omega arith) (λ c. omega arith) loop-again returns-2)

@@ -19,38 +19,10 @@ Inv-loop n v out₀ runs i₀ out i = (i ≤ runs) × (runs ≡ runsOf n) × Fil
 abbrev μ-loop : tie.MeasureT-loop
 μ-loop n v out₀ runs i₀ out i = runs - i
 
-runs-of-requires : tie.Need-runs-of-requires Inv-loop μ-loop
-runs-of-requires c κs = search needs
-
-loop-holds : tie.Need-loop-holds Inv-loop μ-loop
-loop-holds c = (omega arith, c .runs-of .ensures, fill-start _ nan nought)
-
-add-target : tie.Need-add-target Inv-loop μ-loop
-add-target c = omega arith
-
-mul-target : tie.Need-mul-target Inv-loop μ-loop
-mul-target c = omega arith
-
-element-copy-out-target : tie.Need-element-copy-out-target Inv-loop μ-loop
-element-copy-out-target c = omega arith
-
-float-of-requires : tie.Need-float-of-requires Inv-loop μ-loop
-float-of-requires c κs = search needs
-
-mul-out : tie.Need-mul-out Inv-loop μ-loop
-mul-out c = omega arith
-
-array-write-out : tie.Need-array-write-out Inv-loop μ-loop
-array-write-out c = omega arith
-
-add-i : tie.Need-add-i Inv-loop μ-loop
-add-i c = omega arith
-
-loop-less : tie.Need-loop-less Inv-loop μ-loop
-loop-less c = omega arith
-
 loop-again : tie.Need-loop-again Inv-loop μ-loop
-loop-again c = let t = c .before .before in let l = t .before .loop in let a = t .before .before .before .args in (omega arith, l .inv .1, fill-more _ nan nought (l .out) (l .i) _ (l .inv .2) (omega arith) (target-made (a .n) _ (l .i) (a .v .now) _ (l .inv .1) (t .loop-test .taken) (c .float-of .ensures)))
+loop-again c =
+    let t = c .before .before in let l = t .before .loop in let a = t .before .before .before .args in
+    (omega arith, l .inv .1, fill-more _ nan nought (l .out) (l .i) _ (l .inv .2) (omega arith) (target-made (a .n) _ (l .i) (a .v .now) _ (l .inv .1) (t .loop-test .taken) (c .float-of .ensures)))
 
 returns : tie.Need-returns Inv-loop μ-loop
 returns c = let l = c .before .loop in let a = c .before .before .before .args in fill-done _ nan nought (l .out) (l .i) (l .inv .2) (target-left (a .n) _ (l .i) (a .v .now) (l .inv .1) (c .loop-test .left))
@@ -58,18 +30,5 @@ returns c = let l = c .before .loop in let a = c .before .before .before .args i
 pub targets-in-spec : {M : Type 1} → statement M
 targets-in-spec =
     tie.close
-    (tie.spec
-    Inv-loop
-    μ-loop
-    runs-of-requires
-    loop-holds
-    add-target
-    mul-target
-    element-copy-out-target
-    float-of-requires
-    mul-out
-    array-write-out
-    add-i
-    loop-less
-    loop-again
-    returns)
+    (tie.spec Inv-loop μ-loop (search needs) (λ c. (omega arith, c .runs-of .ensures, fill-start _ nan nought)) (λ c. omega arith) (λ c. omega arith)
+    (λ c. omega arith) (search needs) (λ c. omega arith) (λ c. omega arith) (λ c. omega arith) (λ c. omega arith) loop-again returns)

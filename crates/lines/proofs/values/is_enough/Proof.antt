@@ -4,12 +4,6 @@ use borrow.Author.Needs.{needs}
 use Rattle.lines.proofs.values.is_enough.Statement.{statement}
 use Rattle.lines.proofs.values.is_enough.Tie as tie
 
-count-of-requires : tie.Need-count-of-requires
-count-of-requires c κs = search needs
-
-letter-requires : tie.Need-letter-requires
-letter-requires c κs = search needs
-
 returns : tie.Need-returns
 returns c = let a = c .before .before .before .args in enough-reply (a .kind) (a .group) (a .fields) _ _ (c .before .letter .ensures) (c .before .before .count-of .ensures .0) (c .if1 .taken)
 
@@ -17,4 +11,4 @@ returns-2 : tie.Need-returns-2
 returns-2 c = let a = c .before .before .before .args in enough-other (a .kind) (a .group) (a .fields) _ _ (c .before .letter .ensures) (c .before .before .count-of .ensures .0) (c .if1 .left)
 
 pub is-enough-spec : {M : Type 1} → statement M
-is-enough-spec = tie.close (tie.spec count-of-requires letter-requires returns returns-2)
+is-enough-spec = tie.close (tie.spec (search needs) (search needs) returns returns-2)

@@ -17,50 +17,25 @@ abbrev μ-loop : tie.MeasureT-loop
 loop-holds : tie.Need-loop-holds Inv-loop μ-loop
 loop-holds c = record { after = omega arith; inside = search needs; room = search needs; there = search needs; long = c .before .pre .5; here = c .before .pre .3; rest = c .before .pre .4; same = refl }
 
-label-in-requires : tie.Need-label-in-requires Inv-loop μ-loop
-label-in-requires c κs = search needs
-
-limit-of-requires : tie.Need-limit-of-requires Inv-loop μ-loop
-limit-of-requires c κs = search needs
-
-read-at-requires : tie.Need-read-at-requires Inv-loop μ-loop
-read-at-requires c κs = search needs
-
-enum-known-n : tie.Need-enum-known-n Inv-loop μ-loop
-enum-known-n c = search needs
-
-mul-v : tie.Need-mul-v Inv-loop μ-loop
-mul-v c = let h = c .before .before .before .before .before .before .before .before .loop .inv in omega arith
-
-element-write-v : tie.Need-element-write-v Inv-loop μ-loop
-element-write-v c = let h = c .before .before .before .before .before .before .before .before .loop .inv in omega arith
-
-enum-told : tie.Need-enum-told Inv-loop μ-loop
-enum-told c = search needs
-
-stopped-requires : tie.Need-stopped-requires Inv-loop μ-loop
-stopped-requires c κs = search needs
-
 returns : tie.Need-returns Inv-loop μ-loop
-returns c = let r = c .before .before .before in let h = r .before .before .before .before .before in let a = h .before .before .args in walk-form (a .kind) (a .group) (a .text .now) (a .v .now) (a .from) (a .to) (h .loop .v) (h .loop .at) (h .loop .k) (h .loop .inv) (r .before .before .before .before .loop-test .taken) (r .before .before .label-in .result) (r .before .limit-of .result) (r .read-at .result) (r .before .before .label-in .ensures) (r .before .limit-of .ensures) (r .read-at .ensures) _ (h .loop .v) (c .before .enum-told .given .1) (c .stopped .ensures)
-
-enum-told-2 : tie.Need-enum-told-2 Inv-loop μ-loop
-enum-told-2 c = search needs
-
-stopped-requires-2 : tie.Need-stopped-requires-2 Inv-loop μ-loop
-stopped-requires-2 c κs = search needs
+returns c =
+    let r = c .before .before .before in let h = r .before .before .before .before .before in let a = h .before .before .args in
+    walk-form (a .kind) (a .group) (a .text .now) (a .v .now) (a .from) (a .to) (h .loop .v) (h .loop .at) (h .loop .k) (h .loop .inv) (r .before .before .before .before .loop-test .taken)
+    (r .before .before .label-in .result) (r .before .limit-of .result) (r .read-at .result) (r .before .before .label-in .ensures) (r .before .limit-of .ensures) (r .read-at .ensures) _ (h .loop .v)
+    (c .before .enum-told .given .1) (c .stopped .ensures)
 
 returns-2 : tie.Need-returns-2 Inv-loop μ-loop
-returns-2 c = let r = c .before .before .before in let h = r .before .before .before .before .before in let a = h .before .before .args in walk-range (a .kind) (a .group) (a .text .now) (a .v .now) (a .from) (a .to) (h .loop .v) (h .loop .at) (h .loop .k) (h .loop .inv) (r .before .before .before .before .loop-test .taken) (r .before .before .label-in .result) (r .before .limit-of .result) (r .read-at .result) (r .before .before .label-in .ensures) (r .before .limit-of .ensures) (r .read-at .ensures) _ (h .loop .v) (c .before .enum-told2 .given .1) (c .stopped2 .ensures)
-
-add-k : tie.Need-add-k Inv-loop μ-loop
-add-k c = let h = c .before .before .before .before .before .before .before .before .loop .inv in omega arith
-
-loop-less : tie.Need-loop-less Inv-loop μ-loop
-loop-less c = let h = c .before .before .before .before .before .before .before .before .loop .inv in omega arith
+returns-2 c =
+    let r = c .before .before .before in let h = r .before .before .before .before .before in let a = h .before .before .args in
+    walk-range (a .kind) (a .group) (a .text .now) (a .v .now) (a .from) (a .to) (h .loop .v) (h .loop .at) (h .loop .k) (h .loop .inv) (r .before .before .before .before .loop-test .taken)
+    (r .before .before .label-in .result) (r .before .limit-of .result) (r .read-at .result) (r .before .before .label-in .ensures) (r .before .limit-of .ensures) (r .read-at .ensures) _ (h .loop .v)
+    (c .before .enum-told2 .given .1) (c .stopped2 .ensures)
 
 loop-again : tie.Need-loop-again Inv-loop μ-loop
-loop-again c = let r = c .before .before .before in let h = r .before .before .before .before .before in let a = h .before .before .args in walk-more (a .kind) (a .group) (a .text .now) (a .v .now) (a .from) (a .to) (h .loop .v) (h .loop .at) (h .loop .k) (h .loop .inv) (r .before .before .before .before .loop-test .taken) (r .before .before .label-in .result) (r .before .limit-of .result) (r .read-at .result) (r .before .before .label-in .ensures) (r .before .limit-of .ensures) (r .read-at .ensures) _ _ (c .before .n .given .1)
+loop-again c =
+    let r = c .before .before .before in let h = r .before .before .before .before .before in let a = h .before .before .args in
+    walk-more (a .kind) (a .group) (a .text .now) (a .v .now) (a .from) (a .to) (h .loop .v) (h .loop .at) (h .loop .k) (h .loop .inv) (r .before .before .before .before .loop-test .taken)
+    (r .before .before .label-in .result) (r .before .limit-of .result) (r .read-at .result) (r .before .before .label-in .ensures) (r .before .limit-of .ensures) (r .read-at .ensures) _ _ (c .before .n .given .1)
 
 returns-3 : tie.Need-returns-3 Inv-loop μ-loop
 returns-3 c = let a = c .before .before .before .args in let l = c .before .loop in walk-end (a .kind) (a .group) (a .text .now) (a .v .now) (a .from) (a .to) (l .v) (l .at) (l .k) (l .inv) (c .loop-test .left)
@@ -68,23 +43,8 @@ returns-3 c = let a = c .before .before .before .args in let l = c .before .loop
 pub read-on-spec : {M : Type 1} → statement M
 read-on-spec =
     tie.close
-    (tie.spec
-    Inv-loop
-    μ-loop
-    loop-holds
-    label-in-requires
-    limit-of-requires
-    read-at-requires
-    enum-known-n
-    mul-v
-    element-write-v
-    enum-told
-    stopped-requires
-    returns
-    enum-told-2
-    stopped-requires-2
-    returns-2
-    add-k
-    loop-less
-    loop-again
-    returns-3)
+    (tie.spec Inv-loop μ-loop loop-holds (search needs) (search needs) (search needs) (search needs)
+    (λ c. let h = c .before .before .before .before .before .before .before .before .loop .inv in omega arith)
+    (λ c. let h = c .before .before .before .before .before .before .before .before .loop .inv in omega arith) (search needs) (search needs) returns
+    (search needs) (search needs) returns-2 (λ c. let h = c .before .before .before .before .before .before .before .before .loop .inv in omega arith)
+    (λ c. let h = c .before .before .before .before .before .before .before .before .loop .inv in omega arith) loop-again returns-3)

@@ -23,38 +23,30 @@ loop-holds : tie.Need-loop-holds Inv-loop μ-loop
 unfolding column tabbed
 loop-holds c = (omega arith, refl, refl, refl)
 
-mul-value : tie.Need-mul-value Inv-loop μ-loop
-mul-value c = omega arith
-
-element-copy-out-value : tie.Need-element-copy-out-value Inv-loop μ-loop
-element-copy-out-value c = omega arith
-
-quantity-at-requires : tie.Need-quantity-at-requires Inv-loop μ-loop
-quantity-at-requires c κs = search needs
-
-spelling-requires : tie.Need-spelling-requires Inv-loop μ-loop
-spelling-requires c κs = search needs
-
 slice-write-buf : tie.Need-slice-write-buf Inv-loop μ-loop
-slice-write-buf c = let h = c .before .before .before in let l = h .before .loop in let z = h .before .before .before in let a = z .args in tab-room (a .kind) (a .v .now) (l .k) _ _ (c .before .quantity-at .ensures) (c .spelling .ensures) (a .n) (a .buf .now) (l .buf) (l .at) (c .before .before .before .loop-test .taken) (z .pre .1) (l .inv .1) (l .inv .2)
+slice-write-buf c =
+    let h = c .before .before .before in let l = h .before .loop in let z = h .before .before .before in let a = z .args in
+    tab-room (a .kind) (a .v .now) (l .k) _ _ (c .before .quantity-at .ensures) (c .spelling .ensures) (a .n) (a .buf .now) (l .buf) (l .at) (c .before .before .before .loop-test .taken) (z .pre .1) (l .inv .1)
+    (l .inv .2)
 
 add-put-at : tie.Need-add-put-at Inv-loop μ-loop
-add-put-at c = let h = c .before .before .before .before in let l = h .before .loop in let z = h .before .before .before in let a = z .args in let y = tab-room (a .kind) (a .v .now) (l .k) _ _ (c .before .before .quantity-at .ensures) (c .before .spelling .ensures) (a .n) (a .buf .now) (l .buf) (l .at) (c .before .before .before .before .loop-test .taken) (z .pre .1) (l .inv .1) (l .inv .2) in omega arith
-
-put-at-requires : tie.Need-put-at-requires Inv-loop μ-loop
-put-at-requires c κs = search needs
-
-add-k : tie.Need-add-k Inv-loop μ-loop
-add-k c = omega arith
-
-loop-less : tie.Need-loop-less Inv-loop μ-loop
-loop-less c = omega arith
+add-put-at c =
+    let h = c .before .before .before .before in let l = h .before .loop in let z = h .before .before .before in let a = z .args in
+    let y = tab-room (a .kind) (a .v .now) (l .k) _ _ (c .before .before .quantity-at .ensures) (c .before .spelling .ensures) (a .n) (a .buf .now) (l .buf) (l .at) (c .before .before .before .before .loop-test .taken)
+    (z .pre .1) (l .inv .1) (l .inv .2) in
+    omega arith
 
 loop-again : tie.Need-loop-again Inv-loop μ-loop
-loop-again c = let h = c .before .before .before .before .before .before .before in let l = h .before .loop in let z = h .before .before .before in let a = z .args in let p = c .before .before .put-at in (omega arith, p .kept .0 ∙ simp length-set (l .inv .1), end-more (a .kind) (a .v .now) (l .k) _ _ (c .before .before .before .before .before .quantity-at .ensures) (c .before .before .before .before .spelling .ensures) (a .n) (a .buf .now) (l .buf) (l .at) (c .before .before .before .before .before .before .before .loop-test .taken) (z .pre .1) (l .inv .1) (l .inv .2) _ (p .ensures .0), put-more (a .kind) (a .v .now) (l .k) _ _ (c .before .before .before .before .before .quantity-at .ensures) (c .before .before .before .before .spelling .ensures) (a .n) (a .buf .now) (l .buf) (l .at) (c .before .before .before .before .before .before .before .loop-test .taken) (z .pre .1) (l .inv .1) (l .inv .2) _ (l .inv .3) (p .ensures .1))
-
-same-length : tie.Need-same-length Inv-loop μ-loop
-same-length c = c .before .loop .inv .1
+loop-again c =
+    let h = c .before .before .before .before .before .before .before in let l = h .before .loop in let z = h .before .before .before in let a = z .args in let p = c .before .before .put-at in (
+      omega arith,
+      p .kept .0 ∙ simp length-set (l .inv .1),
+      end-more (a .kind) (a .v .now) (l .k) _ _ (c .before .before .before .before .before .quantity-at .ensures)
+          (c .before .before .before .before .spelling .ensures) (a .n) (a .buf .now) (l .buf) (l .at) (c .before .before .before .before .before .before .before .loop-test .taken) (z .pre .1) (l .inv .1) (l .inv .2) _
+          (p .ensures .0),
+      put-more (a .kind) (a .v .now) (l .k) _ _ (c .before .before .before .before .before .quantity-at .ensures) (c .before .before .before .before .spelling .ensures) (a .n) (a .buf .now) (l .buf)
+          (l .at) (c .before .before .before .before .before .before .before .loop-test .taken) (z .pre .1) (l .inv .1) (l .inv .2) _ (l .inv .3) (p .ensures .1),
+    )
 
 returns : tie.Need-returns Inv-loop μ-loop
 returns c = let l = c .before .loop in let q : l .k ≡ c .before .before .before .args .n = omega (arith, l .inv .0, c .loop-test .left) in rw (← q) (l .inv .2, l .inv .3)
@@ -62,19 +54,5 @@ returns c = let l = c .before .loop in let q : l .k ≡ c .before .before .befor
 pub put-numbers-spec : {M : Type 1} → statement M
 put-numbers-spec =
     tie.close
-    (tie.spec
-    Inv-loop
-    μ-loop
-    loop-holds
-    mul-value
-    element-copy-out-value
-    quantity-at-requires
-    spelling-requires
-    slice-write-buf
-    add-put-at
-    put-at-requires
-    add-k
-    loop-less
-    loop-again
-    same-length
-    returns)
+    (tie.spec Inv-loop μ-loop loop-holds (λ c. omega arith) (λ c. omega arith) (search needs) (search needs) slice-write-buf add-put-at (search needs)
+    (λ c. omega arith) (λ c. omega arith) loop-again (λ c. c .before .loop .inv .1) returns)

@@ -22,35 +22,20 @@ loop-holds : tie.Need-loop-holds Inv-loop μ-loop
 unfolding column tabbed
 loop-holds c = (omega arith, refl, omega arith)
 
-mul-value : tie.Need-mul-value Inv-loop μ-loop
-mul-value c = omega arith
-
-element-copy-out-value : tie.Need-element-copy-out-value Inv-loop μ-loop
-element-copy-out-value c = omega arith
-
-quantity-at-requires : tie.Need-quantity-at-requires Inv-loop μ-loop
-quantity-at-requires c κs = search needs
-
-spelling-requires : tie.Need-spelling-requires Inv-loop μ-loop
-spelling-requires c κs = search needs
-
-width-requires : tie.Need-width-requires Inv-loop μ-loop
-width-requires c κs = search needs
-
 add-sum : tie.Need-add-sum Inv-loop μ-loop
 add-sum c = let l = c .before .before .before .before .before .loop in let a = c .before .before .before .before .before .before .args in let z = width-short (a .kind) (a .v .now) (l .k) _ _ (c .before .before .quantity-at .ensures) (c .before .spelling .ensures) _ (c .width .ensures) in omega arith
 
 add-sum-2 : tie.Need-add-sum-2 Inv-loop μ-loop
-add-sum-2 c = let l = c .before .before .before .before .before .loop in let a = c .before .before .before .before .before .before .args in let z = width-short (a .kind) (a .v .now) (l .k) _ _ (c .before .before .quantity-at .ensures) (c .before .spelling .ensures) _ (c .width .ensures) in omega arith
-
-add-k : tie.Need-add-k Inv-loop μ-loop
-add-k c = omega arith
-
-loop-less : tie.Need-loop-less Inv-loop μ-loop
-loop-less c = omega arith
+add-sum-2 c =
+    let l = c .before .before .before .before .before .loop in let a = c .before .before .before .before .before .before .args in
+    let z = width-short (a .kind) (a .v .now) (l .k) _ _ (c .before .before .quantity-at .ensures) (c .before .spelling .ensures) _ (c .width .ensures) in
+    omega arith
 
 loop-again : tie.Need-loop-again Inv-loop μ-loop
-loop-again c = let l = c .before .before .before .before .before .loop in let a = c .before .before .before .before .before .before .args in let z = width-short (a .kind) (a .v .now) (l .k) _ _ (c .before .before .quantity-at .ensures) (c .before .spelling .ensures) _ (c .width .ensures) in (omega arith, width-more (a .kind) (a .v .now) (l .k) _ _ (c .before .before .quantity-at .ensures) (c .before .spelling .ensures) _ _ (l .inv .1) (c .width .ensures), omega arith)
+loop-again c =
+    let l = c .before .before .before .before .before .loop in let a = c .before .before .before .before .before .before .args in
+    let z = width-short (a .kind) (a .v .now) (l .k) _ _ (c .before .before .quantity-at .ensures) (c .before .spelling .ensures) _ (c .width .ensures) in
+    (omega arith, width-more (a .kind) (a .v .now) (l .k) _ _ (c .before .before .quantity-at .ensures) (c .before .spelling .ensures) _ _ (l .inv .1) (c .width .ensures), omega arith)
 
 returns : tie.Need-returns Inv-loop μ-loop
 returns c = let l = c .before .loop in let q : l .k ≡ c .before .before .args .n = omega (arith, l .inv .0, c .loop-test .left) in rw (← q) (l .inv .1, l .inv .2)
@@ -58,18 +43,5 @@ returns c = let l = c .before .loop in let q : l .k ≡ c .before .before .args 
 pub widths-spec : {M : Type 1} → statement M
 widths-spec =
     tie.close
-    (tie.spec
-    Inv-loop
-    μ-loop
-    loop-holds
-    mul-value
-    element-copy-out-value
-    quantity-at-requires
-    spelling-requires
-    width-requires
-    add-sum
-    add-sum-2
-    add-k
-    loop-less
-    loop-again
-    returns)
+    (tie.spec Inv-loop μ-loop loop-holds (λ c. omega arith) (λ c. omega arith) (search needs) (search needs) (search needs) add-sum add-sum-2
+    (λ c. omega arith) (λ c. omega arith) loop-again returns)

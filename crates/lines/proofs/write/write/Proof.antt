@@ -8,35 +8,18 @@ use borrow.Author.Needs.{needs}
 use Rattle.lines.proofs.write.write.Statement.{statement}
 use Rattle.lines.proofs.write.write.Tie as tie
 
-in-range-requires : tie.Need-in-range-requires
-in-range-requires c κs = search needs
-
 returns : tie.Need-returns
 returns c = let a = c .before .before .before .args in write-range (messageFits (a .group) (a .message)) _ (c .before .in-range .ensures) (spellLine (a .group) (a .message)) (a .buf .now) (not-true _ (c .if1 .taken))
 
-numbers-of-requires : tie.Need-numbers-of-requires
-numbers-of-requires c κs = sym (c .before .in-range .ensures) ∙ not-false _ (c .if1 .left)
-
-kind-is-requires : tie.Need-kind-is-requires
-kind-is-requires c κs = search needs
-
-put-line-requires : tie.Need-put-line-requires
-put-line-requires c κs = let n = c .before .before .before .before .numbers-of .ensures in (n .1, n .2)
-
-same-length : tie.Need-same-length
-same-length c = search needs
-
 returns-2 : tie.Need-returns-2
-returns-2 c = let a = c .before .before .before .before .before .before .before .before .before .before .before .args in write-put (messageFits (a .group) (a .message)) _ (c .before .before .before .before .before .before .before .before .before .in-range .ensures) (spellLine (a .group) (a .message)) (a .buf .now) (not-false _ (c .before .before .before .before .before .before .before .before .if1 .left)) _ _ _ (spelled (a .group) (a .message) _ _ (c .before .before .before .before .kind-is .ensures) (c .before .before .before .before .before .before .before .numbers-of .ensures .0)) (c .before .before .put-line .ensures)
+returns-2 c =
+    let a = c .before .before .before .before .before .before .before .before .before .before .before .args in
+    write-put (messageFits (a .group) (a .message)) _ (c .before .before .before .before .before .before .before .before .before .in-range .ensures) (spellLine (a .group) (a .message)) (a .buf .now)
+    (not-false _ (c .before .before .before .before .before .before .before .before .if1 .left)) _ _ _
+    (spelled (a .group) (a .message) _ _ (c .before .before .before .before .kind-is .ensures) (c .before .before .before .before .before .before .before .numbers-of .ensures .0)) (c .before .before .put-line .ensures)
 
 pub write-spec : {M : Type 1} → statement M
 write-spec =
     tie.close
-    (tie.spec
-    in-range-requires
-    returns
-    numbers-of-requires
-    kind-is-requires
-    put-line-requires
-    same-length
-    returns-2)
+    (tie.spec (search needs) returns (λ c κs. sym (c .before .in-range .ensures) ∙ not-false _ (c .if1 .left)) (search needs)
+    (λ c κs. let n = c .before .before .before .before .numbers-of .ensures in (n .1, n .2)) (search needs) returns-2)

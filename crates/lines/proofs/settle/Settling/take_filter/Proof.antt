@@ -9,67 +9,30 @@ use borrow.Author.Needs.{needs}
 use Rattle.lines.proofs.settle.Settling.take_filter.Statement.{statement}
 use Rattle.lines.proofs.settle.Settling.take_filter.Tie as tie
 
-is-kind-requires : tie.Need-is-kind-requires
-is-kind-requires c κs = search needs
-
-stop-requires : tie.Need-stop-requires
-stop-requires c κs = search needs
-
 returns : tie.Need-returns
 returns c = let a = c .before .before .before .before .args in unexpected (a .self) Filter (a .text .now) _ _ _ (c .before .before .is-kind .ensures) (c .before .if1 .taken) (c .stop .ensures)
-
-any-group-requires : tie.Need-any-group-requires
-any-group-requires c κs = search needs
 
 read-values-requires : tie.Need-read-values-requires
 read-values-requires c κs = let z = c .before .before .before .before .before .before in (fields-are _ _ (z .pre .1), here-start _ (expected-short Filter (z .args .text .now) _ (c .before .before .before .before .is-kind .ensures) (c .before .before .before .if1 .left)), none-read, refl)
 
-enum-told : tie.Need-enum-told
-enum-told c = search needs
-
-array-read-with-filter : tie.Need-array-read-with-filter
-array-read-with-filter c = search needs
-
-array-read-with-filter-2 : tie.Need-array-read-with-filter-2
-array-read-with-filter-2 c = search needs
-
-array-read-with-filter-3 : tie.Need-array-read-with-filter-3
-array-read-with-filter-3 c = search needs
-
-with-filter-requires : tie.Need-with-filter-requires
-with-filter-requires c κs = search needs
-
-keep-requires : tie.Need-keep-requires
-keep-requires c κs = c .before .before .before .before .before .before .before .before .before .before .pre .0
-
-enum-known-why : tie.Need-enum-known-why
-enum-known-why c = search needs
-
-stop-requires-2 : tie.Need-stop-requires-2
-stop-requires-2 c κs = search needs
-
 returns-2 : tie.Need-returns-2
-returns-2 c = let a = c .before .before .before .before .before .before .before .before .before .before .before .args in let f = c .before .before .before .before .read-values .ensures in let t = c .before .before .enum-told .given .1 in expected (a .self) Filter (a .text .now) _ _ _ (c .before .before .before .before .before .before .before .before .before .is-kind .ensures) (c .before .before .before .before .before .before .before .before .if1 .left) (plain-kept (a .self) Filter _ (c .before .before .before .before .before .before .any-group .ensures) (a .text .now) _ _ f (withFilter (a .self .settings)) _ _ t (filter-are Filter _ (a .text .now) _ _ f t (a .self .settings) _ (c .before .with-filter .ensures)) (c .keep .ensures))
+returns-2 c =
+    let a = c .before .before .before .before .before .before .before .before .before .before .before .args in let f = c .before .before .before .before .read-values .ensures in
+    let t = c .before .before .enum-told .given .1 in
+    expected (a .self) Filter (a .text .now) _ _ _ (c .before .before .before .before .before .before .before .before .before .is-kind .ensures)
+    (c .before .before .before .before .before .before .before .before .if1 .left)
+    (plain-kept (a .self) Filter _ (c .before .before .before .before .before .before .any-group .ensures) (a .text .now) _ _ f (withFilter (a .self .settings)) _ _ t (filter-are Filter _ (a .text .now) _ _ f t (a .self .settings) _ (c .before .with-filter .ensures)) (c .keep .ensures))
 
 returns-3 : tie.Need-returns-3
-returns-3 c = let a = c .before .before .before .before .before .before .before .before .before .before .before .args in expected (a .self) Filter (a .text .now) _ _ _ (c .before .before .before .before .before .before .before .before .before .is-kind .ensures) (c .before .before .before .before .before .before .before .before .if1 .left) (plain-stop (a .self) Filter _ (c .before .before .before .before .before .before .any-group .ensures) (a .text .now) _ _ (c .before .before .before .before .read-values .ensures) (withFilter (a .self .settings)) _ _ (c .before .before .why .given .1) (c .stop2 .ensures))
+returns-3 c =
+    let a = c .before .before .before .before .before .before .before .before .before .before .before .args in
+    expected (a .self) Filter (a .text .now) _ _ _ (c .before .before .before .before .before .before .before .before .before .is-kind .ensures)
+    (c .before .before .before .before .before .before .before .before .if1 .left)
+    (plain-stop (a .self) Filter _ (c .before .before .before .before .before .before .any-group .ensures) (a .text .now) _ _ (c .before .before .before .before .read-values .ensures) (withFilter (a .self .settings)) _ _ (c .before .before .why .given .1) (c .stop2 .ensures))
 
 pub take-filter-spec : {M : Type 1} → statement M
 take-filter-spec =
     tie.close
-    (tie.spec
-    is-kind-requires
-    stop-requires
-    returns
-    any-group-requires
-    read-values-requires
-    enum-told
-    array-read-with-filter
-    array-read-with-filter-2
-    array-read-with-filter-3
-    with-filter-requires
-    keep-requires
-    enum-known-why
-    stop-requires-2
-    returns-2
-    returns-3)
+    (tie.spec (search needs) (search needs) returns (search needs) read-values-requires (search needs) (search needs) (search needs) (search needs)
+    (search needs) (λ c κs. c .before .before .before .before .before .before .before .before .before .before .pre .0) (search needs) (search needs)
+    returns-2 returns-3)
