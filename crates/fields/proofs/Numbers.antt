@@ -11,7 +11,7 @@ use lib.Seq.{length-take-le}
 use lib.Dec.{leb, ltb, eqb, lit<, lit≤}
 use borrow.Author.Tests.{lt-ltb, le-ltb, ltb-true, eq-eqb, ne-eqb, eqb-true, leb-true, le-leb}
 use Rattle.units.proofs.Every.{and-left, and-right}
-use Rattle.fields.specs.Digits.{pick, digitOf, charOf, valueFrom, fixedIn, fixed, decimalIn, decimal, allDigits, digitsAt}
+use Rattle.fields.specs.Digits.{pick, digitOf, charOf, valueFrom, fixedIn, fixed, decimalIn, decimal, allDigits, digitsAt, ReadDigits}
 use Rattle.fields.specs.Field.{plain, decimalSaid}
 use Rattle.fields.specs.declared.digit.Digits.{Digits}
 use Rattle.fields.specs.declared.digit.Digits.the-variants.{Said, Wrong}
@@ -294,14 +294,7 @@ pub decimal-short : (j n : ℕ) → n < 10 ^ suc j → length (decimal n) ≤ su
 unfolding decimal
 decimal-short j n h = dec-short (suc n) j n h
 
--- A FIXED NUMBER OF DIGITS AT A PLACE
-pub record ReadDigits (text : List ℕ) (at n v : ℕ) : Type 0 where
-  pub least : 1 ≤ n
-  pub most : n ≤ 16
-  pub below : v < 10 ^ n
-  pub bytes : take n (drop at text) ≡ fixed 10 n v
-
--- what is accepted are n digits, and the number is theirs
+-- A FIXED NUMBER OF DIGITS AT A PLACE: what is accepted are n digits, and the number is theirs
 pub digits-only : (text : List ℕ) (at n v : ℕ) → digitsAt text at n ≡ Said v → ReadDigits text at n v
 unfolding digitsAt fixedIn
 digits-only text at n v =

@@ -1,5 +1,6 @@
 -- Digits, the numbers that they say, and the digits of a number.
-use Prim.Native.Nat.{ℕ, zero, suc, _+_, _-_, _*_, _/_, _%_}
+use Prim.Native.Nat.{ℕ, zero, suc, _+_, _-_, _*_, _/_, _%_, _^_, _≤_, _<_}
+use mathlib.Core.Path.{_≡_}
 use mathlib.Core.List.{List, [], _∷_, _++_}
 use mathlib.Core.Bool.{Bool, true, false, _&&_}
 use lib.ListN.{length, take, drop}
@@ -54,3 +55,10 @@ allDigits (c ∷ cs) = ltb (digitOf c) 10 && allDigits cs
 -- A FIXED NUMBER OF DIGITS: what exactly n decimal digits at a place say, whatever comes after them; n is 1 to 16, which 64 bits always carry
 unfoldable pub digitsAt : List ℕ → ℕ → ℕ → Digits
 digitsAt text at n = pick (leb 1 n && leb n 16) (fixedIn 10 n 0 (take n (drop at text))) Wrong
+
+-- that n digits stand at a place, 1 to 16 of them, and that their number is v: `digits-only` and `digits-read` of proofs/Numbers.antt say that this is what is accepted
+pub record ReadDigits (text : List ℕ) (at n v : ℕ) : Type 0 where
+  pub least : 1 ≤ n
+  pub most : n ≤ 16
+  pub below : v < 10 ^ n
+  pub bytes : take n (drop at text) ≡ fixed 10 n v

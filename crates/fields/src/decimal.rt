@@ -17,7 +17,7 @@ use crate::text::ends_at;
 use units::limits::LABEL_TOP;
 
 // Whether the field at a place has a digit, and no zero before others.
-pub fn is_plain(text: &[u8], at: usize) -> bool
+pub(crate) fn is_plain(text: &[u8], at: usize) -> bool
     ensures { λ r. ⌜ r ≡ plain (fieldAt (now (text .entry)) at) ⌝ }
 {
     if ends_at(text, at) {
@@ -30,7 +30,7 @@ pub fn is_plain(text: &[u8], at: usize) -> bool
 }
 
 // The decimal number at a place. It no longer grows once it is past every limit.
-pub fn read_decimal(text: &[u8], at: usize, low: u64, high: u64) -> Field
+pub(crate) fn read_decimal(text: &[u8], at: usize, low: u64, high: u64) -> Field
     ensures { λ r. ⌜ r ≡ readAt (now (text .entry)) at Spelling.Decimal low high ⌝ }
 {
     if !is_plain(text, at) {
@@ -56,7 +56,7 @@ pub fn read_decimal(text: &[u8], at: usize, low: u64, high: u64) -> Field
 }
 
 // How many digits a number has.
-pub fn decimal_width(n: u64) -> usize
+pub(crate) fn decimal_width(n: u64) -> usize
     ensures { λ r. ⌜ r ≡ length (decimal n) ⌝ }
 {
     let mut m = n;

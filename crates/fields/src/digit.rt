@@ -11,7 +11,7 @@ pub enum Digits {
 }
 
 // The value of a decimal or upper-case hex digit, 16 of any other byte.
-pub fn digit(b: u8) -> u64
+pub(crate) fn digit(b: u8) -> u64
     ensures { λ r. ⌜ r ≡ digitOf b ⌝ }
 {
     if b < 48 {

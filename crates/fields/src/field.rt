@@ -13,7 +13,7 @@ pub enum Field {
 }
 
 // The number of a field that has its form.
-pub fn judged(spelling: Spelling, low: u64, high: u64, n: u64, next: usize) -> Field
+pub(crate) fn judged(spelling: Spelling, low: u64, high: u64, n: u64, next: usize) -> Field
     ensures { λ r. ⌜ r ≡ judge spelling low high next (Digits.Said n) ⌝ }
 {
     if in_range(spelling, low, high, n) {

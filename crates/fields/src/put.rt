@@ -5,7 +5,7 @@ ghost use lib.Dec.{leb};
 ghost use Rattle.fields.specs.Put.{put, putEnd};
 
 // Whether k bytes fit from a place on.
-pub fn has_room(len: usize, at: usize, k: usize) -> bool
+pub(crate) fn has_room(len: usize, at: usize, k: usize) -> bool
     ensures { λ r. ⌜ r ≡ leb (at + k) len ⌝ }
 {
     if len < at {

@@ -13,7 +13,7 @@ pub enum Spelling {
 
 impl Spelling {
     // The largest number that a field of this spelling can have.
-    pub fn limit(self) -> u64
+    pub(crate) fn limit(self) -> u64
         ensures { λ r. ⌜ r ≡ limit self ⌝ }
     {
         match self {
@@ -26,7 +26,7 @@ impl Spelling {
 }
 
 // Whether n is one of low..high, and no more than the limit.
-pub fn in_range(spelling: Spelling, low: u64, high: u64, n: u64) -> bool
+pub(crate) fn in_range(spelling: Spelling, low: u64, high: u64, n: u64) -> bool
     ensures { λ r. ⌜ r ≡ fits spelling low high n ⌝ }
 {
     (low <= n) & (n <= high) & (n <= spelling.limit())

@@ -6,7 +6,7 @@ use mathlib.Core.Path.{_≡_, refl, sym, ap, ap₂, subst, _∙_}
 use mathlib.Core.Bool.{Bool, true, false, _&&_}
 use mathlib.Core.List.{List}
 use mathlib.Core.Logic.{by-cases}
-use mathlib.Core.Option.{Option, none, some, Option·some-ne-none}
+use mathlib.Core.Option.{Option, none, some}
 use lib.Dec.{leb, ltb, eqb}
 use lib.ListN.{length, getD}
 use borrow.Author.Tests.{leb-true, le-leb, ltb-true, lt-ltb, le-ltb, eqb-true, eq-eqb}
@@ -42,9 +42,9 @@ use Rattle.message.specs.InRange.HeadInRange.{reading, query, reply, adv
 use Rattle.message.specs.Message.{messageFits}
 use Rattle.message.specs.Readings.{readingsFit}
 use Rattle.message.specs.Settings.{bytePlace, byteAt, lenFits, certificateFits, certificateAt, noCertificate, sixteen, settingsFit}
-use Rattle.message.specs.View.{onSome, asReply, asUpdate, asIssue}
+use Rattle.message.specs.View.{onSome, asReply, toReply, asUpdate, toUpdate, asIssue, toIssue}
 use Rattle.message.proofs.Ranges.{readings-length, readings-place, readings-made}
-use Rattle.message.proofs.Views.{by-kind, reply-seen, update-seen, issue-seen}
+use Rattle.message.proofs.Views.{by-kind, seen-not, reply-seen, update-seen, issue-seen}
 
 -- ---- the head
 module _ (s : Group) where
@@ -147,10 +147,6 @@ module _ (s : Group) where
     abbrev has : Head → Carried
     has h = carried s h
 
-    -- a view that sees nothing, where something is there
-    unseen : {A B : Type 0} (view : Head → Option A) {h k : Head} {v : A} → view k ≡ none → h ≡ k → view h ≡ some v → B
-    unseen view n e q = absurd (Option·some-ne-none _ (sym q ∙ ap view e ∙ n))
-
     abbrev Told : Carried → Type 0
     Told k = (readingsFit (k .readings) (a .readings) ≡ true) × (stateFits (k .estimates) (a .estimates) ≡ true) × (targetsFit (k .targets) (a .targets) ≡ true)
 
@@ -162,7 +158,7 @@ module _ (s : Group) where
         let u = and-three (groupFits s) (headFits s (a .head)) (readingsFit (c .readings) (a .readings)) (t .0) in
         (u .0, u .1, (u .2, t .1, t .2))
 
-    pub message-range : messageFits s a ≡ true → MessageInRange s a
+    message-range : messageFits s a ≡ true → MessageInRange s a
     unfolding carried
     message-range h =
         let k = told h in
@@ -185,18 +181,18 @@ module _ (s : Group) where
               (issue-seen (a .head)) refl;
         }
 
-    pub message-made : MessageInRange s a → messageFits s a ≡ true
+    message-made : MessageInRange s a → messageFits s a ≡ true
     unfolding messageFits carried
     message-made r =
         and-both (and-both (and-both (and-both (group-exact s .1 (r .group)) (head-exact s (r .group .runs .1) (a .head) .1 (r .head)))
         (by-kind (λ x. a .head ≡ x → readingsFit (has x .readings) (a .readings) ≡ true) (λ v e. raws-exact (v .2) (a .readings) .1 (r .reply _ _ _ e))
-        (λ x n e. subst (λ (m : ℕ). readingsFit m (a .readings) ≡ true) (sym (no-readings (asReply x) (asUpdate x) (asIssue x) n)) (raws-exact 0 (a .readings) .1 (r .no-reply (λ _ _ _ q. unseen asReply n e (ap asReply q)))))
+        (λ x n e. subst (λ (m : ℕ). readingsFit m (a .readings) ≡ true) (sym (no-readings (asReply x) (asUpdate x) (asIssue x) n)) (raws-exact 0 (a .readings) .1 (r .no-reply (λ sender mask label q. seen-not toReply asReply (λ v. refl) x n (sender, label, mask) (sym e ∙ q)))))
         (reply-seen (a .head)) refl))
         (by-kind (λ x. a .head ≡ x → stateFits (has x .estimates) (a .estimates) ≡ true) (λ v e. state-exact (s .m) (a .estimates) .1 (r .update _ _ e))
-        (λ x n e. subst (λ (m : ℕ). stateFits m (a .estimates) ≡ true) (sym (no-estimates (asReply x) (asUpdate x) (asIssue x) n)) (state-exact 0 (a .estimates) .1 (r .no-update (λ _ _ q. unseen asUpdate n e (ap asUpdate q)))))
+        (λ x n e. subst (λ (m : ℕ). stateFits m (a .estimates) ≡ true) (sym (no-estimates (asReply x) (asUpdate x) (asIssue x) n)) (state-exact 0 (a .estimates) .1 (r .no-update (λ sender state q. seen-not toUpdate asUpdate (λ v. refl) x n (sender, state) (sym e ∙ q)))))
         (update-seen (a .head)) refl))
         (by-kind (λ x. a .head ≡ x → targetsFit (has x .targets) (a .targets) ≡ true) (λ v e. targets-exact (s .m) (a .targets) .1 (r .issue _ _ _ e))
-        (λ x n e. subst (λ (m : ℕ). targetsFit m (a .targets) ≡ true) (sym (no-targets (asReply x) (asUpdate x) (asIssue x) n)) (targets-exact 0 (a .targets) .1 (r .no-issue (λ _ _ _ q. unseen asIssue n e (ap asIssue q)))))
+        (λ x n e. subst (λ (m : ℕ). targetsFit m (a .targets) ≡ true) (sym (no-targets (asReply x) (asUpdate x) (asIssue x) n)) (targets-exact 0 (a .targets) .1 (r .no-issue (λ sender label digest q. seen-not toIssue asIssue (λ v. refl) x n (sender, label, digest) (sym e ∙ q)))))
         (issue-seen (a .head)) refl)
 
     pub message-exact : (messageFits s a ≡ true → MessageInRange s a) × (MessageInRange s a → messageFits s a ≡ true)

@@ -133,6 +133,15 @@ module _ {A : Type 0} {make : A → Head} {view : Head → Option A} where
   is-seen back (it w) v e = ap make (Option·some-injective w v (sym (back w) ∙ e))
   is-seen back (other n) v e = absurd (Option·some-ne-none v (sym e ∙ n))
 
+  -- where it is refuted that a head is of the kind, nothing is seen
+  pub not-seen : {h : Head} → Seen make view h → ((v : A) → h ≡ make v → ⊥) → view h ≡ none
+  not-seen (it v) f = absurd (f v refl)
+  not-seen (other e) f = e
+
+-- where nothing is seen, a head is not of the kind
+pub seen-not : {A : Type 0} (make : A → Head) (view : Head → Option A) → ((v : A) → view (make v) ≡ some v) → (h : Head) → view h ≡ none → (v : A) → h ≡ make v → ⊥
+seen-not make view back h n v e = Option·some-ne-none v (sym (back v) ∙ ap view (sym e) ∙ n)
+
 -- R, U and D are among what controllers send each other
 pub telling-exchanged : (h : Head) → isTelling h ≡ true → isExchanged h ≡ true
 telling-exchanged h t =
