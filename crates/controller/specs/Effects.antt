@@ -19,7 +19,7 @@ use Rattle.plan.specs.declared.planned.Effect.{Effect}
 use Rattle.plan.specs.declared.planned.Effect.the-variants.{Keep, Go, Begin, Add, Merge, Adopt, Count, Issue, Restart}
 use Rattle.controller.specs.declared.state.Controller.{Controller}
 use Rattle.controller.specs.Start.{startOf}
-use Rattle.controller.specs.Merge.{runBit, merged}
+use Rattle.controller.specs.Merge.{Set, runBit, single, together}
 
 abbrev pub inPhase : Controller → Phase → Controller
 inPhase c phase =
@@ -34,20 +34,29 @@ begun c label run raw =
       label = label;
       state = c .state;
       estimates = c .estimates;
-      held = runBit run;
-      readings = set (replicate runsTop 0) run raw;
+      held = single run raw .mask;
+      readings = single run raw .readings;
       votes = replicate controllersTop nobody;
     }
 
-abbrev pub holds : Controller → ℕ → List ℕ → Controller
-holds c held readings =
-    record { own = c .own; phase = c .phase; label = c .label; state = c .state; estimates = c .estimates; held = held; readings = readings; votes = c .votes }
+-- the readings held, and those that a message carries for the runs of a mask
+abbrev pub heldBy : Controller → Set
+heldBy c = record { mask = c .held; readings = c .readings }
 
+abbrev pub carriedBy : ℕ → List ℕ → Set
+carriedBy mask readings = record { mask = mask; readings = readings }
+
+abbrev pub holding : Controller → Set → Controller
+holding c a =
+    record { own = c .own; phase = c .phase; label = c .label; state = c .state; estimates = c .estimates; held = a .mask; readings = a .readings; votes = c .votes }
+
+-- M's reading put where it belongs: `reading-joins` (controller_laws) says that this is `join`
 abbrev pub added : Controller → ℕ → ℕ → Controller
-added c run raw = holds c (bitOr (c .held) (runBit run)) (set (c .readings) run raw)
+added c run raw = holding c (record { mask = bitOr (c .held) (runBit run); readings = set (c .readings) run raw })
 
+-- R's readings, where none clashes
 abbrev pub mergedIn : Controller → ℕ → List ℕ → Controller
-mergedIn c mask new = holds c (bitOr (c .held) mask) (merged mask new (c .readings))
+mergedIn c mask new = holding c (together (heldBy c) (carriedBy mask new))
 
 abbrev pub adopting : Controller → StateLabel → List Estimate → Phase → Controller
 adopting c state estimates phase =

@@ -6,9 +6,9 @@ use Rattle.units.specs.declared.estimate.Estimate.{Estimate}
 use Rattle.units.specs.declared.settings.Numbers.{Numbers}
 use Rattle.filter.specs.Compute.{setPoints}
 use Rattle.message.specs.declared.head.Head.{Head}
-use Rattle.message.specs.declared.head.Head.the-variants.{Reading, Query, Reply, Advert, Update, Vote, Setpoints, Due, CollectingEnds, VotingEnds, Floor, Start, Refused}
 use Rattle.message.specs.declared.value.Message.{Message}
 use Rattle.message.specs.Message.{plain}
+use Rattle.message.specs.View.{onReply, onUpdate, onIssue}
 use Rattle.controller.specs.declared.state.Controller.{Controller}
 use Rattle.controller.specs.Merge.{selected}
 
@@ -21,18 +21,10 @@ withEstimates head estimates = record { head = head; readings = plain head .read
 abbrev pub withTargets : Head → List Float → Message
 withTargets head targets = record { head = head; readings = plain head .readings; estimates = plain head .estimates; targets = targets }
 
--- R has the readings asked for, U the estimates, S the targets that the state gives; the head stands twice, to be sent and to be matched on
+-- R has the readings asked for, U the estimates, S the targets that the state gives; the head stands twice, to be sent and to be looked at
 unfoldable pub sentMessage : Numbers → Controller → Head → Head → Message
-sentMessage s c head (Reading label run raw) = plain head
-sentMessage s c head (Query sender label mask) = plain head
-sentMessage s c head (Reply sender label mask) = withReadings head (selected mask (c .readings))
-sentMessage s c head (Advert sender state) = plain head
-sentMessage s c head (Update sender state) = withEstimates head (c .estimates)
-sentMessage s c head (Vote sender label digest) = plain head
-sentMessage s c head (Setpoints sender label digest) = withTargets head (setPoints s (c .estimates))
-sentMessage s c head (Due label) = plain head
-sentMessage s c head (CollectingEnds label) = plain head
-sentMessage s c head (VotingEnds label) = plain head
-sentMessage s c head (Floor label) = plain head
-sentMessage s c head (Start own floor) = plain head
-sentMessage s c head (Refused number) = plain head
+sentMessage s c head h =
+    onReply (λ sender label mask. withReadings head (selected mask (c .readings)))
+    (onUpdate (λ sender state. withEstimates head (c .estimates))
+    (onIssue (λ sender label digest. withTargets head (setPoints s (c .estimates)))
+    (plain head) h) h) h

@@ -2,7 +2,6 @@
 use Prim.Native.Nat.{ℕ}
 use mathlib.Core.Bool.{Bool, not, _&&_}
 use mathlib.Core.List.{List}
-use lib.Bits.{bitAnd}
 use lib.ListN.{getD}
 use Rattle.units.specs.declared.labels.RoundLabel.{RoundLabel}
 use Rattle.units.specs.declared.refusal.Refusal.the-variants.{Range, Kind}
@@ -35,22 +34,22 @@ use Rattle.plan.specs.Votes.{planFloor, planDigest, judged}
 use Rattle.controller.specs.declared.state.Controller.{Controller}
 use Rattle.controller.specs.declared.step.Answer.{Answer}
 use Rattle.controller.specs.State.{briefOf, ballotAt, controllerFits}
-use Rattle.controller.specs.Merge.{agrees}
-use Rattle.controller.specs.Effects.{applied}
+use Rattle.controller.specs.Merge.{agreed}
+use Rattle.controller.specs.Effects.{heldBy, carriedBy, applied}
 
 -- the votes of the current label, with one more in its seat
 abbrev pub votesWith : Numbers → Controller → ℕ → Digest → Votes
 votesWith s c seat digest = record { group = s .group; label = c .label; seats = seated (c .votes) seat digest }
 
-abbrev pub decided : Numbers → Controller → ℕ → Digest → Decision
-decided s c seat digest = decision (votesWith s c seat digest)
+abbrev pub decisionWith : Numbers → Controller → ℕ → Digest → Decision
+decisionWith s c seat digest = decision (votesWith s c seat digest)
 
 -- "While voting, the vote is judged after F and after each D"
 unfoldable pub judgedIn : Numbers → Controller → Plan → ℕ → Digest → Phase → Plan
 judgedIn s c p seat digest Idle = p
 judgedIn s c p seat digest Collecting = p
 judgedIn s c p seat digest Pending = p
-judgedIn s c p seat digest Voting = judged (briefOf c) seat digest (p .first) (decided s c seat digest)
+judgedIn s c p seat digest Voting = judged (briefOf c) seat digest (p .first) (decisionWith s c seat digest)
 
 unfoldable pub judgedPlan : Numbers → Controller → Plan → Effect → Plan
 judgedPlan s c p Keep = p
@@ -68,7 +67,7 @@ votePlan s c p = judgedPlan s c p (p .effect)
 
 -- R clashes where one of its readings differs from what is held
 abbrev pub clashing : Controller → ℕ → List ℕ → Bool
-clashing c mask new = not (agrees (bitAnd mask (c .held)) new (c .readings))
+clashing c mask new = not (agreed (heldBy c) (carriedBy mask new))
 
 -- what a message leads to; B is a start or restart, and X is of no known kind here
 unfoldable pub planned : Numbers → Controller → Message → Head → Plan

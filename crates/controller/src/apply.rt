@@ -1,7 +1,7 @@
 // The one place where a plan's effect is applied to the controller: what an effect doesn't name stays.
 ghost use lib.ListN.{set};
 ghost use mathlib.Core.Path.{_≡_};
-ghost use Rattle.controller.specs.Effects.{added, adopting, applied, begun, counted, holds, inPhase, issuing, mergedIn};
+ghost use Rattle.controller.specs.Effects.{added, adopting, applied, begun, carriedBy, counted, holding, inPhase, issuing, mergedIn};
 use crate::merge::merge_readings;
 use crate::merge::run_bit;
 use crate::state::Controller;
@@ -73,7 +73,7 @@ impl Controller {
     }
 
     fn holding(self, held: u32, readings: [u32; 16]) -> Controller
-        ensures { λ r. ⌜ r ≡ holds self held readings ⌝ }
+        ensures { λ r. ⌜ r ≡ holding self (carriedBy held readings) ⌝ }
     {
         let phase = self.phase;
         let label = self.label;

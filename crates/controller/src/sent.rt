@@ -63,45 +63,21 @@ impl Controller {
         ensures { λ r. ⌜ r ≡ sentMessage numbers self head head ⌝ }
     {
         match head {
-            Head::Reading {
-                label: _,
-                run: _,
-                raw: _,
-            } => Message::plain(head),
-            Head::Query {
-                sender: _,
-                label: _,
-                mask: _,
-            } => Message::plain(head),
             Head::Reply {
                 sender: _,
                 label: _,
                 mask,
             } => self.reply(head, mask),
-            Head::Advert {
-                sender: _,
-                state: _,
-            } => Message::plain(head),
             Head::Update {
                 sender: _,
                 state: _,
             } => self.update(head),
-            Head::Vote {
-                sender: _,
-                label: _,
-                digest: _,
-            } => Message::plain(head),
             Head::Setpoints {
                 sender: _,
                 label: _,
                 digest: _,
             } => self.setpoints(numbers, head),
-            Head::Due { label: _ } => Message::plain(head),
-            Head::CollectingEnds { label: _ } => Message::plain(head),
-            Head::VotingEnds { label: _ } => Message::plain(head),
-            Head::Floor { label: _ } => Message::plain(head),
-            Head::Start { own: _, floor: _ } => Message::plain(head),
-            Head::Refused { number: _ } => Message::plain(head),
+            _ => Message::plain(head),
         }
     }
 }

@@ -2,7 +2,7 @@
 ghost use mathlib.Core.Path.{_≡_};
 ghost use lib.ListN.{getD};
 ghost use Rattle.floats.specs.Ranges.{sameState};
-ghost use Rattle.controller.specs.Step.{carriedOut, clashing, decided, inputsFit, judgedIn, judgedPlan, planned, readingChange, stepped};
+ghost use Rattle.controller.specs.Step.{carriedOut, clashing, decisionWith, inputsFit, judgedIn, judgedPlan, planned, readingChange, stepped};
 use crate::merge::readings_agree;
 use crate::state::Controller;
 use floats::same::same_state;
@@ -46,8 +46,8 @@ impl Controller {
     }
 
     // What all votes are decided for, once a vote is in its seat.
-    fn decision(self, numbers: Numbers, seat: usize, digest: Digest) -> Decision
-        ensures { λ r. ⌜ r ≡ decided numbers self seat digest ⌝ }
+    fn decision_with(self, numbers: Numbers, seat: usize, digest: Digest) -> Decision
+        ensures { λ r. ⌜ r ≡ decisionWith numbers self seat digest ⌝ }
     {
         let group = numbers.group;
         let label = self.label;
@@ -61,7 +61,7 @@ impl Controller {
     }
 
     // A vote taken in: judged while voting.
-    fn counted(
+    fn judged_in(
         self,
         numbers: Numbers,
         plan: Plan,
@@ -77,14 +77,14 @@ impl Controller {
             Phase::Collecting => plan,
             Phase::Pending => plan,
             Phase::Voting => {
-                let decision = self.decision(numbers, seat, digest);
+                let decision = self.decision_with(numbers, seat, digest);
                 self.brief().judge(seat, digest, first, decision)
             }
         }
     }
 
     // "While voting, the vote is judged after F and after each D": a plan that takes in no vote stands.
-    fn judged(self, numbers: Numbers, plan: Plan) -> Plan
+    fn judged_plan(self, numbers: Numbers, plan: Plan) -> Plan
         ensures { λ r. ⌜ r ≡ judgedPlan numbers self plan (plan .effect) ⌝ }
     {
         let effect = plan.effect;
@@ -103,7 +103,7 @@ impl Controller {
                 seat,
                 digest,
                 phase,
-            } => self.counted(numbers, plan, seat, digest, phase),
+            } => self.judged_in(numbers, plan, seat, digest, phase),
             Effect::Issue {
                 seat: _,
                 digest: _,
@@ -173,7 +173,7 @@ impl Controller {
                 sender,
                 label,
                 digest,
-            } => self.judged(
+            } => self.judged_plan(
                 numbers,
                 brief.on_digest(self.ballot(sender), sender, label, digest),
             ),
@@ -185,7 +185,7 @@ impl Controller {
             Head::Due { label } => brief.on_due(numbers.group.m, label),
             Head::CollectingEnds { label } => brief.on_collecting_ends(label),
             Head::VotingEnds { label } => brief.on_voting_ends(label),
-            Head::Floor { label } => self.judged(numbers, brief.on_floor(label)),
+            Head::Floor { label } => self.judged_plan(numbers, brief.on_floor(label)),
             Head::Start { own, floor } => doing(Effect::Restart { own, floor }),
             Head::Refused { number: _ } => refusal(Refusal::Kind),
         }

@@ -44,7 +44,7 @@ module _ (mask : ℕ) (readings : List ℕ) (fit : readingsFit mask readings ≡
           (getD-set-other readings run i raw 0 n) (readings-place mask readings fit i k))
 
 -- ---- put together
-merged-length : (mask : ℕ) (new old : List ℕ) → length (merged mask new old) ≡ 16
+pub merged-length : (mask : ℕ) (new old : List ℕ) → length (merged mask new old) ≡ 16
 unfolding merged
 merged-length mask new old = length-tab (λ (i : ℕ). mergedAt (inMask mask i) (getD new i 0) (getD old i 0)) 0 16
 

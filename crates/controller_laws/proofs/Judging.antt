@@ -42,7 +42,7 @@ use Rattle.controller.specs.declared.state.Controller.{Controller}
 use Rattle.controller.specs.declared.step.Answer.{Answer}
 use Rattle.controller.specs.State.{briefOf, ballotAt}
 use Rattle.controller.specs.Effects.{applied, counted, issuing}
-use Rattle.controller.specs.Step.{decided, votesWith, judgedIn, judgedPlan, votePlan, planned, inputsFit, carriedOut, stepped}
+use Rattle.controller.specs.Step.{decisionWith, votesWith, judgedIn, judgedPlan, votePlan, planned, inputsFit, carriedOut, stepped}
 use Rattle.controller_laws.specs.Endings.{endedWith}
 use Rattle.controller_laws.specs.Judging.{IssuedFor, Judged}
 use Rattle.controller_laws.specs.Phases.{Busy, Free}
@@ -94,7 +94,7 @@ module _ (s : Numbers) (c : Controller) (a : Message) (i : inputsFit s c a ≡ t
         and-both (and-both (group-fits s (q .numbers)) (round s c (q .numbers) (q .valid) (b .0)))
         (seated-fit (s .group) (c .label) (c .votes) (q .valid .votes) seat digest (z .0) (sized s (q .numbers) .g-high) (z .1))
 
-    judged-by : (x : Decision) → decided s c seat digest ≡ x → Answers v x → Judged s c seat digest first (stepped s c a)
+    judged-by : (x : Decision) → decisionWith s c seat digest ≡ x → Answers v x → Judged s c seat digest first (stepped s c a)
     unfolding applied
     judged-by (Unjudged why) e q = never (votesFit v) votes-fit (q .1)
     judged-by Undecided e q =
@@ -108,7 +108,7 @@ module _ (s : Numbers) (c : Controller) (a : Message) (i : inputsFit s c a ≡ t
         never-decided z = let y : _≡_ {A = ℕ} 0 1 = cc in omega arith
     judged-by (Decided chosen) e q = record { issued = went; lacked = lacks; undecided = λ n. absurd (n chosen (q .1)) }
       where
-        it : (d : Digest) → Decides v d → decided s c seat digest ≡ Decided d
+        it : (d : Digest) → Decides v d → decisionWith s c seat digest ≡ Decided d
         it d p = e ∙ ap Decided (decided-one v votes-fit chosen d (q .1) p)
 
         went : (d : Digest) → Decides v d → possessed (briefOf c) d ≡ true → IssuedFor s c seat digest d (stepped s c a)
@@ -125,7 +125,7 @@ module _ (s : Numbers) (c : Controller) (a : Message) (i : inputsFit s c a ≡ t
 
     -- "While voting, the vote is judged after F and after each D": decided and here, S; decided and not here, 13; not decided, no more is sent, and voting goes on
     pub judged-exactly : Judged s c seat digest first (stepped s c a)
-    judged-exactly = judged-by (decided s c seat digest) refl (decision-exact v)
+    judged-exactly = judged-by (decisionWith s c seat digest) refl (decision-exact v)
 
   -- ---- a good D is taken
   chosen-votes : (seat : ℕ) (digest : Digest) (first : Sent) (d : Digest) → applied s a c (chosenPlan (briefOf c) seat digest first d .effect) .votes ≡ seated (c .votes) seat digest
@@ -146,7 +146,7 @@ module _ (s : Numbers) (c : Controller) (a : Message) (i : inputsFit s c a ≡ t
   taken-votes seat digest Idle = refl
   taken-votes seat digest Collecting = refl
   taken-votes seat digest Pending = refl
-  taken-votes seat digest Voting = judged-votes seat digest Nothing (decided s c seat digest)
+  taken-votes seat digest Voting = judged-votes seat digest Nothing (decisionWith s c seat digest)
 
   -- D "kept for its sender": of the current label, from another, not idle, into a free seat; all in range, it is in its seat after the step
   pub digest-taken : (sender : ℕ) (digest : Digest) → a .head ≡ Vote sender (c .label) digest → (sender ≡ c .own → ⊥) → Busy (c .phase) → Free (ballotAt c sender) digest

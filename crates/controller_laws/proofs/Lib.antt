@@ -1,4 +1,5 @@
 -- The laws of the step.
+pub mod Opened
 pub mod Ways
 pub mod OneWay
 pub mod Adding
@@ -13,6 +14,7 @@ pub mod Sendings
 pub mod Telling
 pub mod Judging
 pub mod Rises
+pub mod Sets
 pub mod Changes
 pub mod Outcomes
 pub mod Clashes

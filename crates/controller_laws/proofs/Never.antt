@@ -25,8 +25,8 @@ use Rattle.plan.specs.declared.planned.Sent.the-variants.{Nothing, One}
 use Rattle.plan.specs.Plan.{afterwards}
 use Rattle.controller.specs.declared.state.Controller.{Controller}
 use Rattle.controller.specs.declared.step.Answer.{Answer}
-use Rattle.controller.specs.Step.{decided, votesWith, stepped}
-use Rattle.controller_laws.specs.Ways.{ends, Leads, Goes}
+use Rattle.controller.specs.Step.{decisionWith, votesWith, stepped}
+use Rattle.controller_laws.specs.Ways.{endsRound, Leads, Goes}
 use Rattle.controller_laws.specs.Ways.Leads.{refused, unchanged, begins, adds, replies, merges, updates, adopts-idle, adopts-before, adopts-past, asks, adverts, asks-and-adverts, collected, lapses, counts, open-still, behind, lacking, issues, restarts}
 use Rattle.controller_laws.specs.Ways.Goes.{out, led}
 use Rattle.controller_laws.proofs.Ways.{refuses-keeps, goes}
@@ -42,12 +42,12 @@ issue-calm e h (One one) = refl
 
 module _ (s : Numbers) (c : Controller) (a : Message) where
   -- what is decided lies before the round
-  pub decided-before : (seat : ℕ) (digest chosen : Digest) → decided s c seat digest ≡ Decided chosen → before (chosen .state) (c .label) ≡ true
+  pub decided-before : (seat : ℕ) (digest chosen : Digest) → decisionWith s c seat digest ≡ Decided chosen → before (chosen .state) (c .label) ≡ true
   unfolding legal
   decided-before seat digest chosen d = and-right (leb (s .group .m) runsTop && maskFits (s .group .m) (chosen .mask)) _ (decided-legal (votesWith s c seat digest) chosen d)
 
   not-behind : {h : Head} {p : Plan} → Leads s c a h p → p .verdict ≡ Denied Behind → ⊥
-  not-behind (refused why e) q = let z : why ≡ Behind = cc in true≢false (ap ends (sym z) ∙ refuses-keeps e)
+  not-behind (refused why e) q = let z : why ≡ Behind = cc in true≢false (ap endsRound (sym z) ∙ refuses-keeps e)
   not-behind (unchanged r) q = calm Taken refl q
   not-behind (begins l k) q = calm Taken refl q
   not-behind (adds e lo n) q = calm Taken refl q

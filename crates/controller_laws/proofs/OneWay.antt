@@ -45,7 +45,7 @@ use Rattle.plan.specs.Votes.{ownDigest, endOf, inFloor, planFloor, inSeat, inDi
 use Rattle.controller.specs.declared.state.Controller.{Controller}
 use Rattle.controller.specs.declared.step.Answer.{Answer}
 use Rattle.controller.specs.State.{briefOf, ballotAt}
-use Rattle.controller.specs.Step.{decided, judgedIn, judgedPlan, votePlan, clashing, planned, inputsFit, carriedOut, stepped}
+use Rattle.controller.specs.Step.{decisionWith, judgedIn, judgedPlan, votePlan, clashing, planned, inputsFit, carriedOut, stepped}
 use Rattle.controller_laws.specs.Phases.{Busy, Early, Open, Fixed, Free}
 use Rattle.controller_laws.specs.Reasons.{Mine, TooLate, OtherLabel, Shut, Clashed, Refuses, Rests}
 use Rattle.controller_laws.specs.Reasons.Mine.{my-query, my-reply, my-advert, my-update, my-vote, my-setpoints}
@@ -59,6 +59,7 @@ use Rattle.controller_laws.specs.Ways.{Votes, Leads, Goes}
 use Rattle.controller_laws.specs.Ways.Votes.{another's, ours}
 use Rattle.controller_laws.specs.Ways.Leads.{refused, unchanged, begins, adds, replies, merges, updates, adopts-idle, adopts-before, adopts-past, asks, adverts, asks-and-adverts, collected, lapses, counts, open-still, behind, lacking, issues, restarts}
 use Rattle.controller_laws.specs.Ways.Goes.{out, led}
+use Rattle.controller_laws.proofs.Opened.{kinds-open, phases-open}
 use Rattle.controller_laws.proofs.Ways.{same-round}
 
 -- a choice whose sides are both r
@@ -210,7 +211,7 @@ module _ (s : Numbers) (c : Controller) (a : Message) where
     early-stands Pending k = refl
     early-stands Voting k = absurd k
 
-    voting-judges : (p : Phase) → p ≡ Voting → judged b sender digest Nothing (decided s c sender digest) ≡ votePlan s c (does (Count sender digest p))
+    voting-judges : (p : Phase) → p ≡ Voting → judged b sender digest Nothing (decisionWith s c sender digest) ≡ votePlan s c (does (Count sender digest p))
     unfolding judgedPlan judgedIn
     voting-judges p e = along (λ (x : Phase). votePlan s c (does (Count sender digest x))) e refl
 
@@ -221,7 +222,7 @@ module _ (s : Numbers) (c : Controller) (a : Message) where
 
   -- ---- why a message is refused
   own-plan : {h : Head} → Mine c h → refuse Own ≡ planned s c a h
-  unfolding planned planQuery planReply planAdvert planUpdate planSetpoints planDigest judgedPlan
+  unfolding kinds-open
   own-plan my-query = own-stops c itself _ refl
   own-plan my-reply = own-stops c itself _ refl
   own-plan my-advert = own-stops c itself _ refl
@@ -237,7 +238,7 @@ module _ (s : Numbers) (c : Controller) (a : Message) where
       by-both _ refl (by-both _ refl (by-yes _ (eq-eqb _ _ (ap (λ (x : RoundLabel). x .0) e)) (along (sameRound b (getD (c .readings) run 0) run raw) p refl)))
 
   other-plan : {h : Head} → OtherLabel c h → refuse Other ≡ planned s c a h
-  unfolding planned planQuery planReply planDue planEnds planVotingEnds planFloor planDigest judgedPlan
+  unfolding kinds-open
   other-plan (other-query {sender} {label = l} ne n) = not-ours c itself sender _ ne (label-stops c itself l _ n refl)
   other-plan (other-reply {sender} {label = l} ne n) = not-ours c itself sender _ ne (label-stops c itself l _ n refl)
   other-plan (other-vote {sender} {label = l} ne n) = not-ours c (votePlan s c) sender _ ne (label-stops c (votePlan s c) l _ n refl)
@@ -247,7 +248,7 @@ module _ (s : Numbers) (c : Controller) (a : Message) where
   other-plan (other-floor {label = l} n) = label-stops c (votePlan s c) l _ n refl
 
   shut-plan : {h : Head} → Shut c h → refuse Closed ≡ planned s c a h
-  unfolding planned planQuery planReply planUpdate planSetpoints planDue planEnds planVotingEnds planFloor planDigest inQuery inDigest judgedPlan
+  unfolding kinds-open inQuery inDigest
   shut-plan (shut-reading {run} {raw} k f) = reading-at (getD (c .readings) run 0) run raw k (fixed-reading (getD (c .readings) run 0) run raw (c .phase) f)
   shut-plan (shut-query {sender} {mask} ne e) = heard sender _ ne (along (inQuery b mask) e refl)
   shut-plan (shut-reply {sender} {mask} ne n) = heard sender _ ne (shut-to-reply mask (clashing c mask (a .readings)) (c .phase) n)
@@ -260,7 +261,7 @@ module _ (s : Numbers) (c : Controller) (a : Message) where
   shut-plan (shut-floor n) = this-label c (votePlan s c) _ (shut-to-floor (c .phase) n)
 
   clash-plan : {h : Head} → Clashed c a h → refuse Clash ≡ planned s c a h
-  unfolding planned planReply planUpdate planDigest inReply adopted Readings.collected inSeat judgedPlan
+  unfolding kinds-open phases-open inSeat
   clash-plan (by-reading {run} {raw} e k h n) = collecting-at run raw e k (by-yes _ h (by-no _ (ne-eqb _ _ n) refl))
   clash-plan (by-reply {sender} {mask} ne e k) = heard sender _ ne (along (inReply mask (clashing c mask (a .readings))) e (by-yes _ k refl))
   clash-plan (by-update {sender} ne o k) =
@@ -283,7 +284,7 @@ module _ (s : Numbers) (c : Controller) (a : Message) where
 
   -- ---- why it changes nothing
   rests-plan : {h : Head} → Rests s c a h → does Keep ≡ planned s c a h
-  unfolding planned planQuery planAdvert planUpdate planDue inDue adopted asking answered Readings.collected
+  unfolding kinds-open phases-open
   rests-plan (known {run} {raw} e k h q) = collecting-at run raw e k (by-yes _ h (by-yes _ (eq-eqb _ _ q) refl))
   rests-plan (none-held {sender} {mask} ne k q) = heard sender _ ne (busy-query mask (c .phase) k (by-yes _ (eq-eqb _ _ q) refl))
   rests-plan (not-below {sender} ne l) = not-ours c itself sender _ ne (by-no _ (le-ltb _ _ l) refl)
@@ -297,7 +298,7 @@ module _ (s : Numbers) (c : Controller) (a : Message) where
   rests-plan (none-due e q l) = this-label c itself _ (along (inDue b (s .group .m)) e (by-no _ (le-ltb _ _ l) (by-yes _ (eq-eqb _ _ q) refl)))
 
   -- ---- a vote that is taken in while voting
-  votes-plan : {h : Head} {seat : ℕ} {digest : Digest} {first : Sent} → Votes c h seat digest first → judged b seat digest first (decided s c seat digest) ≡ planned s c a h
+  votes-plan : {h : Head} {seat : ℕ} {digest : Digest} {first : Sent} → Votes c h seat digest first → judged b seat digest first (decisionWith s c seat digest) ≡ planned s c a h
   unfolding planned planFloor inFloor judgedPlan judgedIn
   votes-plan (another's {sender} {digest} ne e f) = free-vote sender digest ne (rw e tt) f (voting-judges sender digest (c .phase) e)
   votes-plan (ours e) = this-label c (votePlan s c) _ (along (λ (x : Phase). votePlan s c (inFloor b x)) e refl)
@@ -309,14 +310,14 @@ module _ (s : Numbers) (c : Controller) (a : Message) where
   open-plan seat digest first Undecided n = refl
   open-plan seat digest first (Decided chosen) n = absurd (n chosen refl)
 
-  chosen-plan : {h : Head} {seat : ℕ} {digest chosen : Digest} {first : Sent} {r : Plan} → Votes c h seat digest first → decided s c seat digest ≡ Decided chosen
+  chosen-plan : {h : Head} {seat : ℕ} {digest chosen : Digest} {first : Sent} {r : Plan} → Votes c h seat digest first → decisionWith s c seat digest ≡ Decided chosen
       → r ≡ chosenPlan b seat digest first chosen → r ≡ planned s c a h
   unfolding judged
   chosen-plan {seat = seat} {digest = digest} {first = first} w d h = along (judged b seat digest first) d h ∙ votes-plan w
 
   -- ---- every way
   pub leads-planned : {h : Head} {p : Plan} → Leads s c a h p → p ≡ planned s c a h
-  unfolding planned planReading planAdvert planUpdate planReply planQuery planDue planEnds planVotingEnds inReply inUpdate adopted overtaken inDue inEnds inVotingEnds asking answered chosenPlan Readings.collected
+  unfolding kinds-open phases-open planReading chosenPlan
   leads-planned (refused why e) = refused-plan e
   leads-planned (unchanged r) = rests-plan r
   leads-planned (begins {label} l k) =
@@ -338,7 +339,7 @@ module _ (s : Numbers) (c : Controller) (a : Message) where
   leads-planned (collected e) = this-label c itself _ (along (inEnds b) e refl)
   leads-planned (lapses e) = this-label c itself _ (along inVotingEnds e refl)
   leads-planned (counts {sender} {digest} ne e f) = free-vote sender digest ne (early-busy (c .phase) e) f (early-stands sender digest (c .phase) e)
-  leads-planned (open-still {seat = seat} {digest = digest} {first = first} w d) = open-plan seat digest first (decided s c seat digest) d ∙ votes-plan w
+  leads-planned (open-still {seat = seat} {digest = digest} {first = first} w d) = open-plan seat digest first (decisionWith s c seat digest) d ∙ votes-plan w
   leads-planned (behind w d k) = chosen-plan w d (by-yes _ (ap not k) refl)
   leads-planned (lacking w d k n) = chosen-plan w d (by-no _ (ap not k) (by-yes _ (ap not n) refl))
   leads-planned (issues w d k n) = chosen-plan w d (by-no _ (ap not k) (by-no _ (ap not n) refl))

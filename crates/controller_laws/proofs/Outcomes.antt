@@ -3,15 +3,17 @@ use Prim.Native.Nat.{ℕ}
 use mathlib.Core.Path.{_≡_, refl, sym, ap, subst}
 use mathlib.Core.Bool.{true}
 use mathlib.Core.Logic.{_⊎_, inl, inr}
+use mathlib.Core.Option.{Option, none, some}
 use Rattle.units.specs.declared.labels.RoundLabel.{RoundLabel}
 use Rattle.units.specs.declared.settings.Numbers.{Numbers}
 use Rattle.units.specs.Labels.{before}
 use Rattle.vote.specs.declared.digest.Digest.{Digest}
 use Rattle.vote.specs.declared.judge.Decision.the-variants.{Decided}
 use Rattle.message.specs.declared.head.Head.{Head}
-use Rattle.message.specs.declared.head.Head.the-variants.{Reading, Query, Reply, Advert, Update, Vote, Setpoints, Due, CollectingEnds, VotingEnds, Floor, Start, Refused}
+use Rattle.message.specs.declared.head.Head.the-variants.{Setpoints, Start}
 use Rattle.message.specs.declared.value.Message.{Message}
 use Rattle.message.specs.Message.{plain}
+use Rattle.message.specs.View.{onSome, asReply, asUpdate, asIssue}
 use Rattle.plan.specs.declared.brief.Phase.the-variants.{Idle}
 use Rattle.plan.specs.declared.planned.Effect.the-variants.{Issue}
 use Rattle.plan.specs.declared.planned.Plan.{Plan}
@@ -25,8 +27,8 @@ use Rattle.controller.specs.State.{briefOf}
 use Rattle.controller.specs.Start.{startOf}
 use Rattle.controller.specs.Effects.{applied, counted, issuing}
 use Rattle.controller.specs.Sent.{sentMessage}
-use Rattle.controller.specs.Step.{decided, planned, inputsFit, carriedOut, stepped}
-use Rattle.controller_laws.specs.Outcomes.{Settled, SentBy, StateBy}
+use Rattle.controller.specs.Step.{decisionWith, planned, inputsFit, carriedOut, stepped}
+use Rattle.controller_laws.specs.Outcomes.{RoundIssued, SentBy, StateBy}
 use Rattle.controller_laws.specs.Outcomes.SentBy.{query, reply, advert, update, floor, vote, setpoints}
 use Rattle.controller_laws.specs.Outcomes.StateBy.{kept, adopted, issued, started}
 use Rattle.controller_laws.specs.Sendings.{IsSent, OnSent}
@@ -46,12 +48,12 @@ module _ (s : Numbers) (c : Controller) (a : Message) where
   with-vote n (another's k e f) = tt
   with-vote n (ours e) = vote refl e
 
-  settled : {h : Head} {seat : ℕ} {digest chosen : Digest} {first : Sent} → Votes c h seat digest first → decided s c seat digest ≡ Decided chosen → before (chosen .state) (c .label) ≡ true
-      → possessed (briefOf c) chosen ≡ true → Settled s c h chosen (issuing s (counted c seat digest Idle) chosen)
+  settled : {h : Head} {seat : ℕ} {digest chosen : Digest} {first : Sent} → Votes c h seat digest first → decisionWith s c seat digest ≡ Decided chosen → before (chosen .state) (c .label) ≡ true
+      → possessed (briefOf c) chosen ≡ true → RoundIssued s c h chosen (issuing s (counted c seat digest Idle) chosen)
   settled {seat = seat} {digest = digest} {first = first} w d b p =
       record { seat = seat; digest = digest; first = first; vote = w; chose = d; older = b; here = p; next = refl }
 
-  issue-by : {h : Head} {seat : ℕ} {digest chosen : Digest} {first : Sent} → Votes c h seat digest first → decided s c seat digest ≡ Decided chosen → before (chosen .state) (c .label) ≡ true
+  issue-by : {h : Head} {seat : ℕ} {digest chosen : Digest} {first : Sent} → Votes c h seat digest first → decisionWith s c seat digest ≡ Decided chosen → before (chosen .state) (c .label) ≡ true
       → possessed (briefOf c) chosen ≡ true → AllBy h (afterwards (Issue seat digest chosen) (Setpoints (c .own) (c .label) chosen) first)
   unfolding afterwards applied
   issue-by (another's {sender} {digest} n e f) d b p = (setpoints (settled (another's {sender = sender} {digest = digest} n e f) d b p), tt)
@@ -90,14 +92,14 @@ module _ (s : Numbers) (c : Controller) (a : Message) where
       way (led {p} e w) = let k = way-by w in one-of _ (p .first) (p .second) (k .0) (k .1)
 
   -- ---- where the state comes from
-  issue-state : {h : Head} {seat : ℕ} {digest chosen : Digest} {first : Sent} → a .head ≡ h → Votes c h seat digest first → decided s c seat digest ≡ Decided chosen
+  issue-state : {h : Head} {seat : ℕ} {digest chosen : Digest} {first : Sent} → a .head ≡ h → Votes c h seat digest first → decisionWith s c seat digest ≡ Decided chosen
       → before (chosen .state) (c .label) ≡ true → possessed (briefOf c) chosen ≡ true
       → StateBy s c a (carriedOut s c a (afterwards (Issue seat digest chosen) (Setpoints (c .own) (c .label) chosen) first))
   unfolding afterwards applied
   issue-state {chosen = chosen} u (another's {sender} {digest} n e f) d b p =
-      issued chosen (subst (λ (h : Head). Settled s c h chosen (issuing s (counted c sender digest Idle) chosen)) (sym u) (settled (another's {sender = sender} {digest = digest} n e f) d b p)) (inl refl)
+      issued chosen (subst (λ (h : Head). RoundIssued s c h chosen (issuing s (counted c sender digest Idle) chosen)) (sym u) (settled (another's {sender = sender} {digest = digest} n e f) d b p)) (inl refl)
   issue-state {chosen = chosen} u (ours e) d b p =
-      issued chosen (subst (λ (h : Head). Settled s c h chosen (issuing s (counted c (c .own) (ownDigest (briefOf c)) Idle) chosen)) (sym u) (settled (ours e) d b p)) (inr refl)
+      issued chosen (subst (λ (h : Head). RoundIssued s c h chosen (issuing s (counted c (c .own) (ownDigest (briefOf c)) Idle) chosen)) (sym u) (settled (ours e) d b p)) (inr refl)
 
   way-state : {h : Head} {p : Plan} → Leads s c a h p → a .head ≡ h → StateBy s c a (carriedOut s c a p)
   unfolding applied startOf
@@ -138,19 +140,15 @@ module _ (s : Numbers) (c : Controller) (a : Message) where
   start-step own low e =
       on-pick (λ (r : Answer). (r .next ≡ c) ⊎ (r .next ≡ startOf s own low)) (inputsFit s c a) (λ _. inr (ap (λ (h : Head). applied s a c (planned s c a h .effect)) e)) (λ _. inl refl)
 
+-- a choice by a view has what both its sides have
+on-view : {A B : Type 0} (P : B → Type 0) {f : A → B} {z : B} → ((v : A) → P (f v)) → P z → (o : Option A) → P (onSome f z o)
+on-view P f z none = z
+on-view P f z (some v) = f v
+
 -- the head of a whole message is the one that was sent
 pub sent-head : (s : Numbers) (c : Controller) (head h : Head) → sentMessage s c head h .head ≡ head
 unfolding sentMessage plain
-sent-head s c head (Reading label run raw) = refl
-sent-head s c head (Query sender label mask) = refl
-sent-head s c head (Reply sender label mask) = refl
-sent-head s c head (Advert sender state) = refl
-sent-head s c head (Update sender state) = refl
-sent-head s c head (Vote sender label digest) = refl
-sent-head s c head (Setpoints sender label digest) = refl
-sent-head s c head (Due label) = refl
-sent-head s c head (CollectingEnds label) = refl
-sent-head s c head (VotingEnds label) = refl
-sent-head s c head (Floor label) = refl
-sent-head s c head (Start own low) = refl
-sent-head s c head (Refused number) = refl
+sent-head s c head h = on-view Sends (λ v. refl) (on-view Sends (λ v. refl) (on-view Sends (λ v. refl) refl (asIssue h)) (asUpdate h)) (asReply h)
+  where
+    Sends : Message → Type 0
+    Sends m = m .head ≡ head

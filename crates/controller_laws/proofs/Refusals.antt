@@ -22,7 +22,7 @@ use Rattle.controller.specs.Step.{inputsFit, carriedOut, stepped}
 use Rattle.controller_laws.specs.Endings.{refusedOnly, Ended}
 use Rattle.controller_laws.specs.Endings.Ended.{by-time, by-lack, by-age}
 use Rattle.controller_laws.specs.Reasons.{Refuses}
-use Rattle.controller_laws.specs.Ways.{ends, Leads, Goes}
+use Rattle.controller_laws.specs.Ways.{endsRound, Leads, Goes}
 use Rattle.controller_laws.specs.Ways.Leads.{refused, unchanged, begins, adds, replies, merges, updates, adopts-idle, adopts-before, adopts-past, asks, adverts, asks-and-adverts, collected, lapses, counts, open-still, behind, lacking, issues, restarts}
 use Rattle.controller_laws.specs.Ways.Goes.{out, led}
 use Rattle.controller_laws.proofs.Ways.{refuses-keeps, goes}
@@ -34,8 +34,8 @@ pub same-why : {w why : Refusal} → Denied w ≡ Denied why → w ≡ why
 same-why p = cc
 
 -- one refusal cannot both end the round and not
-not-both : {A : Type 0} {w why : Refusal} → Denied w ≡ Denied why → ends w ≡ true → ends why ≡ false → A
-not-both {w = w} {why = why} p q r = absurd (true≢false (sym q ∙ ap ends (same-why p) ∙ r))
+not-both : {A : Type 0} {w why : Refusal} → Denied w ≡ Denied why → endsRound w ≡ true → endsRound why ≡ false → A
+not-both {w = w} {why = why} p q r = absurd (true≢false (sym q ∙ ap endsRound (same-why p) ∙ r))
 
 issue-taken : (e : Effect) (h : Head) (first : Sent) → afterwards e h first .verdict ≡ Taken
 unfolding afterwards
@@ -43,7 +43,7 @@ issue-taken e h Nothing = refl
 issue-taken e h (One one) = refl
 
 module _ (s : Numbers) (c : Controller) (a : Message) (why : Refusal) where
-  keeps : {h : Head} {p : Plan} → Leads s c a h p → p .verdict ≡ Denied why → ends why ≡ false → carriedOut s c a p ≡ refusedOnly c why
+  keeps : {h : Head} {p : Plan} → Leads s c a h p → p .verdict ≡ Denied why → endsRound why ≡ false → carriedOut s c a p ≡ refusedOnly c why
   unfolding applied
   keeps (refused w e) q n = λ i. record { next = c; first = Nothing; second = Nothing; verdict = q i }
   keeps (unchanged r) q n = not-taken q
@@ -68,7 +68,7 @@ module _ (s : Numbers) (c : Controller) (a : Message) (why : Refusal) where
   keeps restarts q n = not-taken q
 
   -- "Every refusal leaves the controller .. unchanged, except 12, 13 and 14": the same controller, bit for bit, and nothing sent
-  pub refused-keeps : stepped s c a .verdict ≡ Denied why → ends why ≡ false → stepped s c a ≡ refusedOnly c why
+  pub refused-keeps : stepped s c a .verdict ≡ Denied why → endsRound why ≡ false → stepped s c a ≡ refusedOnly c why
   refused-keeps q n = way (goes s c a) q
     where
       way : {r : Answer} → Goes s c a r → r .verdict ≡ Denied why → r ≡ refusedOnly c why
@@ -78,7 +78,7 @@ module _ (s : Numbers) (c : Controller) (a : Message) (why : Refusal) where
   named : {h : Head} {w : Refusal} {r : Answer} → Denied w ≡ Denied why → Ended c h w r → Ended c h why r
   named {h} {w} {r} q e = subst (λ (x : Refusal). Ended c h x r) (same-why q) e
 
-  ending : {h : Head} {p : Plan} → Leads s c a h p → p .verdict ≡ Denied why → ends why ≡ true → Ended c h why (carriedOut s c a p)
+  ending : {h : Head} {p : Plan} → Leads s c a h p → p .verdict ≡ Denied why → endsRound why ≡ true → Ended c h why (carriedOut s c a p)
   unfolding applied
   ending (refused w e) q n = not-both (sym q) n (refuses-keeps e)
   ending (unchanged r) q n = not-taken q
@@ -103,7 +103,7 @@ module _ (s : Numbers) (c : Controller) (a : Message) (why : Refusal) where
   ending restarts q n = not-taken q
 
   -- 12, 13 and 14: the phase becomes idle, and nothing else changes but the seat of the vote that was taken in
-  pub refused-ends : stepped s c a .verdict ≡ Denied why → ends why ≡ true → Ended c (a .head) why (stepped s c a)
+  pub refused-ends : stepped s c a .verdict ≡ Denied why → endsRound why ≡ true → Ended c (a .head) why (stepped s c a)
   refused-ends q n = way (goes s c a) q
     where
       way : {r : Answer} → Goes s c a r → r .verdict ≡ Denied why → Ended c (a .head) why r
@@ -111,7 +111,7 @@ module _ (s : Numbers) (c : Controller) (a : Message) (why : Refusal) where
       way (led e w) p = ending w p n
 
   -- ---- why a message is refused
-  said-why : {h : Head} {p : Plan} → Leads s c a h p → p .verdict ≡ Denied why → ends why ≡ false → Refuses c a h why
+  said-why : {h : Head} {p : Plan} → Leads s c a h p → p .verdict ≡ Denied why → endsRound why ≡ false → Refuses c a h why
   said-why {h} (refused w e) q n = subst (λ (x : Refusal). Refuses c a h x) (same-why q) e
   said-why (unchanged r) q n = not-taken q
   said-why (begins l k) q n = not-taken q
@@ -135,7 +135,7 @@ module _ (s : Numbers) (c : Controller) (a : Message) (why : Refusal) where
   said-why restarts q n = not-taken q
 
   -- every refusal but 12, 13 and 14 has its reason: 6 and something out of range, or one of document 01's table
-  pub refused-for : stepped s c a .verdict ≡ Denied why → ends why ≡ false → ((why ≡ Range) × (inputsFit s c a ≡ false)) ⊎ ((inputsFit s c a ≡ true) × Refuses c a (a .head) why)
+  pub refused-for : stepped s c a .verdict ≡ Denied why → endsRound why ≡ false → ((why ≡ Range) × (inputsFit s c a ≡ false)) ⊎ ((inputsFit s c a ≡ true) × Refuses c a (a .head) why)
   refused-for q n = way (goes s c a) q
     where
       way : {r : Answer} → Goes s c a r → r .verdict ≡ Denied why → ((why ≡ Range) × (inputsFit s c a ≡ false)) ⊎ ((inputsFit s c a ≡ true) × Refuses c a (a .head) why)

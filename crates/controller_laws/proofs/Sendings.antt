@@ -23,11 +23,12 @@ use Rattle.vote.proofs.Decided.{decided-legal}
 use Rattle.filter.specs.Compute.{setPoints}
 use Rattle.filter.proofs.Laws.{given-range}
 use Rattle.message.specs.declared.head.Head.{Head}
-use Rattle.message.specs.declared.head.Head.the-variants.{Reading, Query, Reply, Advert, Update, Vote, Setpoints, Due, CollectingEnds, VotingEnds, Floor, Start, Refused}
+use Rattle.message.specs.declared.head.Head.the-variants.{Query, Reply, Advert, Update, Vote, Setpoints, Floor}
 use Rattle.message.specs.declared.value.Message.{Message}
 use Rattle.message.specs.Head.{headFits, carry, carried, isPlain}
 use Rattle.message.specs.Message.{plain, messageFits}
 use Rattle.message.specs.Readings.{readingsFit}
+use Rattle.message.proofs.Views.{plain-seen}
 use Rattle.message.proofs.Plain.{none-fit, unused-estimates, unused-targets, plain-fit}
 use Rattle.plan.specs.declared.brief.Phase.the-variants.{Idle}
 use Rattle.plan.specs.declared.planned.Effect.the-variants.{Issue}
@@ -43,7 +44,7 @@ use Rattle.controller.specs.State.{briefOf}
 use Rattle.controller.specs.Merge.{selected}
 use Rattle.controller.specs.Effects.{counted, issuing, applied}
 use Rattle.controller.specs.Sent.{withReadings, withEstimates, withTargets, sentMessage}
-use Rattle.controller.specs.Step.{decided, votesWith, stepped}
+use Rattle.controller.specs.Step.{decisionWith, votesWith, stepped}
 use Rattle.controller_laws.specs.Sendings.{IsSent, MaySend, OnSent, IsVote, Voted}
 use Rattle.controller_laws.specs.Sendings.MaySend.{reply, update, query, advert, floor, vote, setpoints}
 use Rattle.controller_laws.specs.Phases.{Busy, Early}
@@ -58,20 +59,8 @@ use Rattle.controller_laws.proofs.Ways.{goes}
 
 -- ---- a plain kind is sent as its head alone
 pub sent-plain : (s : Numbers) (c : Controller) (head : Head) → isPlain head ≡ true → sentMessage s c head head ≡ plain head
-unfolding isPlain sentMessage
-sent-plain s c (Reading label run raw) e = refl
-sent-plain s c (Query sender label mask) e = refl
-sent-plain s c (Reply sender label mask) e = no-way e
-sent-plain s c (Advert sender state) e = refl
-sent-plain s c (Update sender state) e = no-way e
-sent-plain s c (Vote sender label digest) e = refl
-sent-plain s c (Setpoints sender label digest) e = no-way e
-sent-plain s c (Due label) e = refl
-sent-plain s c (CollectingEnds label) e = refl
-sent-plain s c (VotingEnds label) e = refl
-sent-plain s c (Floor label) e = refl
-sent-plain s c (Start own label) e = refl
-sent-plain s c (Refused number) e = refl
+unfolding sentMessage
+sent-plain s c head e = let n = plain-seen head e in rw (n .0, n .1, n .2) refl
 
 -- ---- a message in range
 message-made : (s : Group) (a : Message) → groupFits s ≡ true → headFits s (a .head) ≡ true → readingsFit (carried s (a .head) .readings) (a .readings) ≡ true
@@ -129,7 +118,7 @@ module _ (s : Numbers) (c : Controller) (fit : numbersFit s ≡ true) (v : Valid
   unfolding sentMessage headFits carried
   vote-ready n b = plain-fits (s .group) (Vote (c .own) (c .label) (ownDigest (briefOf c))) (group-fits s fit) (and-both (sender _ (round b)) (own-legal s c fit v b)) refl
 
-  setpoints-ready : (seat : ℕ) (digest chosen : Digest) → Busy (c .phase) → decided s c seat digest ≡ Decided chosen
+  setpoints-ready : (seat : ℕ) (digest chosen : Digest) → Busy (c .phase) → decisionWith s c seat digest ≡ Decided chosen
       → Ready (issuing s (counted c seat digest Idle) chosen) (Setpoints (c .own) (c .label) chosen)
   unfolding sentMessage headFits carried plain
   setpoints-ready seat digest chosen b d =
@@ -148,7 +137,7 @@ module _ (s : Numbers) (c : Controller) (fit : numbersFit s ≡ true) (v : Valid
     with-vote n (another's k e f) = tt
     with-vote n (ours e) = vote-ready n (rw e tt)
 
-    issue-ready : {h : Head} {seat : ℕ} {digest : Digest} {first : Sent} (chosen : Digest) → Votes c h seat digest first → decided s c seat digest ≡ Decided chosen
+    issue-ready : {h : Head} {seat : ℕ} {digest : Digest} {first : Sent} (chosen : Digest) → Votes c h seat digest first → decisionWith s c seat digest ≡ Decided chosen
         → AllReady (afterwards (Issue seat digest chosen) (Setpoints (c .own) (c .label) chosen) first)
     unfolding afterwards applied
     issue-ready chosen (another's {sender} {digest} n e f) d = (setpoints-ready sender digest chosen (rw e tt) d, tt)
@@ -202,7 +191,7 @@ module _ (s : Numbers) (c : Controller) (a : Message) where
   with-vote-may (another's k e f) = tt
   with-vote-may (ours e) = vote e
 
-  issue-may : {h : Head} {seat : ℕ} {digest : Digest} {first : Sent} (chosen : Digest) → Votes c h seat digest first → decided s c seat digest ≡ Decided chosen
+  issue-may : {h : Head} {seat : ℕ} {digest : Digest} {first : Sent} (chosen : Digest) → Votes c h seat digest first → decisionWith s c seat digest ≡ Decided chosen
       → AllMay h (afterwards (Issue seat digest chosen) (Setpoints (c .own) (c .label) chosen) first)
   unfolding afterwards
   issue-may chosen (another's {sender} {digest} n e f) d = (setpoints (another's {sender = sender} {digest = digest} n e f) d, tt)

@@ -39,7 +39,7 @@ use Rattle.plan.specs.Timers.{missingRuns, asking, inDue, planDue, inEnds, plan
 use Rattle.plan.specs.Votes.{inFloor, planFloor, inSeat, inDigest, planDigest, possessed, chosenPlan, judged}
 use Rattle.controller.specs.declared.state.Controller.{Controller}
 use Rattle.controller.specs.State.{briefOf, ballotAt}
-use Rattle.controller.specs.Step.{decided, judgedIn, judgedPlan, votePlan, clashing, planned, inputsFit, stepped}
+use Rattle.controller.specs.Step.{decisionWith, judgedIn, judgedPlan, votePlan, clashing, planned, inputsFit, stepped}
 use Rattle.controller_laws.specs.Phases.{Busy, Open, Fixed, Free}
 use Rattle.controller_laws.specs.Reasons.{Mine, TooLate, OtherLabel, Shut, Clashed, Refuses, Rests}
 use Rattle.controller_laws.specs.Reasons.Mine.{my-query, my-reply, my-advert, my-update, my-vote, my-setpoints}
@@ -49,10 +49,11 @@ use Rattle.controller_laws.specs.Reasons.Shut.{shut-reading, shut-query,
 use Rattle.controller_laws.specs.Reasons.Clashed.{by-reading, by-reply, by-update, by-digest}
 use Rattle.controller_laws.specs.Reasons.Refuses.{is-unknown, is-own, is-late, is-other, is-closed, is-clash}
 use Rattle.controller_laws.specs.Reasons.Rests.{known, none-held, not-below, lower, equal, none-due}
-use Rattle.controller_laws.specs.Ways.{ends, Votes, Leads, Goes}
+use Rattle.controller_laws.specs.Ways.{endsRound, Votes, Leads, Goes}
 use Rattle.controller_laws.specs.Ways.Votes.{another's, ours}
 use Rattle.controller_laws.specs.Ways.Leads.{refused, unchanged, begins, adds, replies, merges, updates, adopts-idle, adopts-before, adopts-past, asks, adverts, asks-and-adverts, collected, lapses, counts, open-still, behind, lacking, issues, restarts}
 use Rattle.controller_laws.specs.Ways.Goes.{out, led}
+use Rattle.controller_laws.proofs.Opened.{kinds-open}
 
 -- a choice has what both its sides have
 pub on-pick {ℓ} : {X : Type 0} (P : X → Type ℓ) (t : Bool) {a b : X} → (t ≡ true → P a) → (t ≡ false → P b) → P (pick t a b)
@@ -81,7 +82,7 @@ not-in : {x : Phase} (p q : Phase) → x ≡ p → eqb (place p) (place q) ≡ f
 not-in p q e n k = true≢false (sym (eq-eqb _ _ (ap place (sym e ∙ k))) ∙ n)
 
 -- none of these refusals ends the round
-pub refuses-keeps : {c : Controller} {a : Message} {h : Head} {why : Refusal} → Refuses c a h why → ends why ≡ false
+pub refuses-keeps : {c : Controller} {a : Message} {h : Head} {why : Refusal} → Refuses c a h why → endsRound why ≡ false
 refuses-keeps is-unknown = refl
 refuses-keeps (is-own m) = refl
 refuses-keeps (is-late l) = refl
@@ -209,13 +210,13 @@ module _ (s : Numbers) (c : Controller) (a : Message) where
 
   -- ---- D, F
   module _ {h : Head} {seat : ℕ} {digest : Digest} {first : Sent} (v : Votes c h seat digest first) where
-    chosen-way : (chosen : Digest) → decided s c seat digest ≡ Decided chosen → To h (chosenPlan (briefOf c) seat digest first chosen)
+    chosen-way : (chosen : Digest) → decisionWith s c seat digest ≡ Decided chosen → To h (chosenPlan (briefOf c) seat digest first chosen)
     unfolding chosenPlan
     chosen-way chosen e =
         on-pick (To h) (not (before (chosen .state) (c .label))) (λ b. behind v e (not-true _ b))
         (λ b. on-pick (To h) (not (possessed (briefOf c) chosen)) (λ n. lacking v e (not-false _ b) (not-true _ n)) (λ n. issues v e (not-false _ b) (not-false _ n)))
 
-    judged-way : (d : Decision) → decided s c seat digest ≡ d → To h (judged (briefOf c) seat digest first d)
+    judged-way : (d : Decision) → decisionWith s c seat digest ≡ d → To h (judged (briefOf c) seat digest first d)
     unfolding judged
     judged-way (Unjudged why) e = open-still v (λ chosen q. let z : _≡_ {A = ℕ} 0 1 = cc in omega arith)
     judged-way Undecided e = open-still v (λ chosen q. let z : _≡_ {A = ℕ} 0 1 = cc in omega arith)
@@ -257,7 +258,7 @@ module _ (s : Numbers) (c : Controller) (a : Message) where
 
   -- ---- every message
   leads : (h : Head) → To h (planned s c a h)
-  unfolding planned planQuery planReply planAdvert planUpdate planSetpoints planDue planEnds planVotingEnds planFloor planDigest judgedPlan
+  unfolding kinds-open
   leads (Reading label run raw) = reading-way label run raw
   leads (Query sender label mask) =
       theirs (λ j. Query j label mask) my-query sender (λ ne. current (λ k. Query sender k mask) label (other-query ne) (query-way sender mask ne (c .phase) refl))

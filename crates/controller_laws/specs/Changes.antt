@@ -22,7 +22,7 @@ use Rattle.controller.specs.declared.state.Controller.{Controller}
 use Rattle.controller.specs.declared.step.Answer.{Answer}
 use Rattle.controller.specs.State.{briefOf, ballotAt}
 use Rattle.controller.specs.Start.{startEstimates}
-use Rattle.controller.specs.Step.{decided}
+use Rattle.controller.specs.Step.{decisionWith}
 use Rattle.controller_laws.specs.Ways.{Votes}
 
 -- the message is no B

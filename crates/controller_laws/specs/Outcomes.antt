@@ -23,17 +23,17 @@ use Rattle.controller.specs.declared.step.Answer.{Answer}
 use Rattle.controller.specs.State.{briefOf, ballotAt}
 use Rattle.controller.specs.Start.{startEstimates}
 use Rattle.controller.specs.Effects.{counted, issuing}
-use Rattle.controller.specs.Step.{decided, clashing}
+use Rattle.controller.specs.Step.{decisionWith, clashing}
 use Rattle.controller_laws.specs.Sendings.{IsSent}
 use Rattle.controller_laws.specs.Ways.{Votes}
 
 -- a round that is decided and possessed: a vote was taken in while voting, all votes together are decided for `chosen`, which lies before the round and is here
-pub record Settled (s : Numbers) (c : Controller) (h : Head) (chosen : Digest) (n : Controller) : Type 0 where
+pub record RoundIssued (s : Numbers) (c : Controller) (h : Head) (chosen : Digest) (n : Controller) : Type 0 where
   pub seat : ℕ
   pub digest : Digest
   pub first : Sent
   pub vote : Votes c h seat digest first
-  pub chose : decided s c seat digest ≡ Decided chosen
+  pub chose : decisionWith s c seat digest ≡ Decided chosen
   pub older : before (chosen .state) (c .label) ≡ true
   pub here : possessed (briefOf c) chosen ≡ true
   pub next : n ≡ issuing s (counted c seat digest Idle) chosen
@@ -46,11 +46,11 @@ pub data SentBy (s : Numbers) (c : Controller) (h : Head) (n : Controller) : Hea
   update : n ≡ c → SentBy s c h n (Update (c .own) (c .state))
   floor : c .phase ≡ Collecting → SentBy s c h n (Floor (c .label))
   vote : h ≡ Floor (c .label) → c .phase ≡ Pending → SentBy s c h n (Vote (c .own) (c .label) (ownDigest (briefOf c)))
-  setpoints : {chosen : Digest} → Settled s c h chosen n → SentBy s c h n (Setpoints (c .own) (c .label) chosen)
+  setpoints : {chosen : Digest} → RoundIssued s c h chosen n → SentBy s c h n (Setpoints (c .own) (c .label) chosen)
 
 -- the state after a step: as it was, or that of the message, or the one that the decided round leaves, with which S goes out, or that of a start
 pub data StateBy (s : Numbers) (c : Controller) (a : Message) (r : Answer) : Type 0 where
   kept : r .next .state ≡ c .state → r .next .estimates ≡ c .estimates → StateBy s c a r
   adopted : (sender : ℕ) → a .head ≡ Update sender (r .next .state) → r .next .estimates ≡ a .estimates → StateBy s c a r
-  issued : (chosen : Digest) → Settled s c (a .head) chosen (r .next) → IsSent r (Setpoints (c .own) (c .label) chosen) → StateBy s c a r
+  issued : (chosen : Digest) → RoundIssued s c (a .head) chosen (r .next) → IsSent r (Setpoints (c .own) (c .label) chosen) → StateBy s c a r
   started : r .next .state ≡ record { 0 = 0 } → r .next .estimates ≡ startEstimates (s .group .m) (s .p) → StateBy s c a r

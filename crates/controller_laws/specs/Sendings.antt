@@ -8,8 +8,9 @@ use Rattle.units.specs.declared.settings.Numbers.{Numbers}
 use Rattle.vote.specs.declared.digest.Digest.{Digest}
 use Rattle.vote.specs.declared.judge.Decision.the-variants.{Decided}
 use Rattle.message.specs.declared.head.Head.{Head}
-use Rattle.message.specs.declared.head.Head.the-variants.{Reading, Query, Reply, Advert, Update, Vote, Setpoints, Due, CollectingEnds, VotingEnds, Floor, Start, Refused}
+use Rattle.message.specs.declared.head.Head.the-variants.{Query, Reply, Advert, Update, Vote, Setpoints, Due, CollectingEnds, Floor}
 use Rattle.message.specs.declared.value.Message.{Message}
+use Rattle.message.specs.View.{onVote}
 use Rattle.plan.specs.declared.brief.Phase.the-variants.{Collecting, Pending}
 use Rattle.plan.specs.declared.planned.Sent.{Sent}
 use Rattle.plan.specs.declared.planned.Sent.the-variants.{Nothing, One}
@@ -19,7 +20,7 @@ use Rattle.controller.specs.declared.state.Controller.{Controller}
 use Rattle.controller.specs.declared.step.Answer.{Answer}
 use Rattle.controller.specs.declared.told.Told.{Told}
 use Rattle.controller.specs.State.{briefOf}
-use Rattle.controller.specs.Step.{decided}
+use Rattle.controller.specs.Step.{decisionWith}
 use Rattle.controller_laws.specs.Phases.{Busy, Early}
 use Rattle.controller_laws.specs.Ways.{Votes}
 
@@ -39,7 +40,7 @@ pub data MaySend (s : Numbers) (c : Controller) : Head → Head → Type 0 where
   advert : c .phase ≡ Collecting → MaySend s c (Due (c .label)) (Advert (c .own) (c .state))
   floor : c .phase ≡ Collecting → MaySend s c (CollectingEnds (c .label)) (Floor (c .label))
   vote : c .phase ≡ Pending → MaySend s c (Floor (c .label)) (Vote (c .own) (c .label) (ownDigest (briefOf c)))
-  setpoints : {h : Head} {seat : ℕ} {digest chosen : Digest} {first : Sent} → Votes c h seat digest first → decided s c seat digest ≡ Decided chosen
+  setpoints : {h : Head} {seat : ℕ} {digest chosen : Digest} {first : Sent} → Votes c h seat digest first → decisionWith s c seat digest ≡ Decided chosen
       → MaySend s c h (Setpoints (c .own) (c .label) chosen)
 
 -- something holds of a message that is sent
@@ -49,19 +50,7 @@ OnSent P (One head) = P head
 
 -- the message is a D
 abbrev pub IsVote : Head → Type 0
-IsVote (Reading label run raw) = ⊥
-IsVote (Query sender label mask) = ⊥
-IsVote (Reply sender label mask) = ⊥
-IsVote (Advert sender state) = ⊥
-IsVote (Update sender state) = ⊥
-IsVote (Vote sender label digest) = Unit {0}
-IsVote (Setpoints sender label digest) = ⊥
-IsVote (Due label) = ⊥
-IsVote (CollectingEnds label) = ⊥
-IsVote (VotingEnds label) = ⊥
-IsVote (Floor label) = ⊥
-IsVote (Start own low) = ⊥
-IsVote (Refused number) = ⊥
+IsVote h = onVote (λ sender label digest. Unit {0}) ⊥ h
 
 -- the step that let our vote out: it took the F of the current label while pending, and no early phase of that label is left to vote in again
 pub record Voted (c : Controller) (h : Head) (n : Controller) : Type 0 where

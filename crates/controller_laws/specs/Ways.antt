@@ -29,13 +29,13 @@ use Rattle.plan.specs.Votes.{ownDigest, endOf, possessed}
 use Rattle.controller.specs.declared.state.Controller.{Controller}
 use Rattle.controller.specs.declared.step.Answer.{Answer}
 use Rattle.controller.specs.State.{briefOf, ballotAt}
-use Rattle.controller.specs.Step.{clashing, decided, inputsFit, carriedOut}
+use Rattle.controller.specs.Step.{clashing, decisionWith, inputsFit, carriedOut}
 use Rattle.controller_laws.specs.Phases.{Busy, Early, Free}
 use Rattle.controller_laws.specs.Reasons.{Refuses, Rests}
 
 -- 12, 13 and 14, which end the round
-abbrev pub ends : Refusal → Bool
-ends why = within 12 14 (numberOf why)
+abbrev pub endsRound : Refusal → Bool
+endsRound why = within 12 14 (numberOf why)
 
 -- "the vote is judged after F and after each D": the vote that is taken in while voting, and what goes out with it
 pub data Votes (c : Controller) : Head → ℕ → Digest → Sent → Type 0 where
@@ -83,16 +83,16 @@ pub data Leads (s : Numbers) (c : Controller) (a : Message) : Head → Plan → 
       → Leads s c a (Vote sender (c .label) digest) (does (Count sender digest (c .phase)))
   -- D and F while voting
   open-still : {h : Head} {seat : ℕ} {digest : Digest} {first : Sent} → Votes c h seat digest first
-      → ((chosen : Digest) → decided s c seat digest ≡ Decided chosen → ⊥)
+      → ((chosen : Digest) → decisionWith s c seat digest ≡ Decided chosen → ⊥)
       → Leads s c a h (record { effect = Count seat digest Voting; first = first; second = Nothing; verdict = Taken })
   behind : {h : Head} {seat : ℕ} {digest : Digest} {first : Sent} {chosen : Digest} → Votes c h seat digest first
-      → decided s c seat digest ≡ Decided chosen → before (chosen .state) (c .label) ≡ false
+      → decisionWith s c seat digest ≡ Decided chosen → before (chosen .state) (c .label) ≡ false
       → Leads s c a h (endOf seat digest first Behind)
   lacking : {h : Head} {seat : ℕ} {digest : Digest} {first : Sent} {chosen : Digest} → Votes c h seat digest first
-      → decided s c seat digest ≡ Decided chosen → before (chosen .state) (c .label) ≡ true → possessed (briefOf c) chosen ≡ false
+      → decisionWith s c seat digest ≡ Decided chosen → before (chosen .state) (c .label) ≡ true → possessed (briefOf c) chosen ≡ false
       → Leads s c a h (endOf seat digest first Lacking)
   issues : {h : Head} {seat : ℕ} {digest : Digest} {first : Sent} {chosen : Digest} → Votes c h seat digest first
-      → decided s c seat digest ≡ Decided chosen → before (chosen .state) (c .label) ≡ true → possessed (briefOf c) chosen ≡ true
+      → decisionWith s c seat digest ≡ Decided chosen → before (chosen .state) (c .label) ≡ true → possessed (briefOf c) chosen ≡ true
       → Leads s c a h (afterwards (Issue seat digest chosen) (Setpoints (c .own) (c .label) chosen) first)
   -- B
   restarts : {own : ℕ} {floor : RoundLabel} → Leads s c a (Start own floor) (does (Restart own floor))

@@ -36,7 +36,7 @@ use Rattle.controller.specs.Step.{votesWith, stepped}
 use Rattle.controller_laws.specs.Changes.{ReadingFrom, VoteFrom}
 use Rattle.controller_laws.specs.Changes.ReadingFrom.{was-held, by-reading, by-reply}
 use Rattle.controller_laws.specs.Changes.VoteFrom.{was-cast, by-digest, by-floor}
-use Rattle.controller_laws.specs.Outcomes.{Settled, SentBy, StateBy}
+use Rattle.controller_laws.specs.Outcomes.{RoundIssued, SentBy, StateBy}
 use Rattle.controller_laws.specs.Outcomes.SentBy.{query, reply, advert, update, floor, vote, setpoints}
 use Rattle.controller_laws.specs.Outcomes.StateBy.{kept, adopted, issued as by-issue, started as by-start}
 use Rattle.controller_laws.specs.Sendings.{IsSent}
@@ -107,7 +107,7 @@ module _ (s : Numbers) (meters : Meters) (sent : List Message) (lines : (x : Mes
             subst (λ (x : Digest). Released sent j (n .label) x) (sym g)
             (subst (λ (k : ℕ). Released sent k (n .label) (ownDigest (briefOf c))) (sym z) (ours (c .own) (n .label) (ownDigest (briefOf c)) (inl o)))
 
-    module _ (d : Digest) (t : Settled s c (a .head) d n) where
+    module _ (d : Digest) (t : RoundIssued s c (a .head) d n) where
       small : s .group .m ≤ 16
       small = decided-small (votesWith s c (t .seat) (t .digest)) d (t .chose)
 

@@ -39,7 +39,7 @@ impl Brief {
     }
 
     // The vote is decided: 14, then 13, else compute and send S.
-    fn settle(self, seat: usize, digest: Digest, first: Sent, chosen: Digest) -> Plan
+    fn chosen_plan(self, seat: usize, digest: Digest, first: Sent, chosen: Digest) -> Plan
         ensures { λ r. ⌜ r ≡ chosenPlan self seat digest first chosen ⌝ }
     {
         let label = self.label;
@@ -92,7 +92,7 @@ impl Brief {
                 second: Sent::Nothing,
                 verdict: Verdict::Taken,
             },
-            Decision::Decided(chosen) => self.settle(seat, digest, first, chosen),
+            Decision::Decided(chosen) => self.chosen_plan(seat, digest, first, chosen),
         }
     }
 }

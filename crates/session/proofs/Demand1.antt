@@ -16,7 +16,7 @@ use Rattle.controller.specs.declared.state.Controller.{Controller}
 use Rattle.controller.specs.declared.step.Answer.{Answer}
 use Rattle.controller_laws.specs.Endings.{Ended as EndedBy}
 use Rattle.controller_laws.specs.Endings.Ended.{by-time, by-lack, by-age}
-use Rattle.controller_laws.specs.Ways.{ends}
+use Rattle.controller_laws.specs.Ways.{endsRound}
 use Rattle.controller_laws.proofs.Refusals.{refused-ends}
 use Rattle.session.specs.declared.feed.Fed.{Fed}
 use Rattle.session.specs.declared.feed.Session.{Session}
@@ -57,7 +57,7 @@ module _ (x : Session) (p : List ℕ) (s : Stands x p) (past : x .core .stage �
   abbrev line : List ℕ
   line = lineAt p piece
 
-  unmoved : (why : Refusal) → verdictOf (x .core) line ≡ Refused why → ends why ≡ false → length (refusalLine why) ≤ length buf → Unmoved x piece buf why
+  unmoved : (why : Refusal) → verdictOf (x .core) line ≡ Refused why → endsRound why ≡ false → length (refusalLine why) ≤ length buf → Unmoved x piece buf why
   unmoved why v k l =
       let q = refused-turn (x .core) line why past k v in
       let e = line-turn x p piece s ∙ q in
@@ -72,7 +72,7 @@ module _ (x : Session) (p : List ℕ) (s : Stands x p) (past : x .core .stage �
             ∙ ap {B = List ℕ} (λ (r : Fed). answers (r .next .core) (linesOf later)) f;
       }
 
-  over : (why : Refusal) → verdictOf (x .core) line ≡ Refused why → ends why ≡ true → length (answerText (numbersIn (x .core)) (stepBy (x .core) line)) ≤ length buf → RoundOver x line piece buf why
+  over : (why : Refusal) → verdictOf (x .core) line ≡ Refused why → endsRound why ≡ true → length (answerText (numbersIn (x .core)) (stepBy (x .core) line)) ≤ length buf → RoundOver x line piece buf why
   over why v k l =
       let q = over-turn (x .core) line why k past v in
       let e = line-turn x p piece s ∙ q .turned in

@@ -41,7 +41,7 @@ use Rattle.controller.specs.Sent.{sentMessage}
 use Rattle.controller.specs.State.{briefOf}
 use Rattle.controller.specs.Step.{votesWith, inputsFit, stepped}
 use Rattle.controller_laws.specs.Judging.{Judged}
-use Rattle.controller_laws.specs.Outcomes.{Settled, SentBy}
+use Rattle.controller_laws.specs.Outcomes.{RoundIssued, SentBy}
 use Rattle.controller_laws.specs.Outcomes.SentBy.{query, reply, advert, update, floor, vote, setpoints}
 use Rattle.controller_laws.specs.Sendings.{IsSent}
 use Rattle.controller_laws.specs.Ways.{Votes as TakenIn}
@@ -89,7 +89,7 @@ module _ (s : Numbers) (c : Controller) (a : Message) where
   abbrev n : Controller
   n = stepped s c a .next
 
-  settled-issue : {chosen : Digest} → Settled s c (a .head) chosen n → Issued s c (a .head) chosen n (setPoints s (n .estimates))
+  settled-issue : {chosen : Digest} → RoundIssued s c (a .head) chosen n → Issued s c (a .head) chosen n (setPoints s (n .estimates))
   settled-issue {chosen} t =
       record {
         seat = t .seat;

@@ -20,7 +20,7 @@ use Rattle.lines.specs.Reading.{readLine}
 use Rattle.lines.specs.Writing.{refusalLine}
 use Rattle.lines.proofs.Refusing.{reader-refuses}
 use Rattle.controller.specs.Step.{stepped}
-use Rattle.controller_laws.specs.Ways.{ends}
+use Rattle.controller_laws.specs.Ways.{endsRound}
 use Rattle.controller_laws.proofs.Refusals.{not-taken, same-why, refused-keeps}
 use Rattle.session.specs.declared.stage.Core.{Core}
 use Rattle.session.specs.declared.stage.Stage.{Stage}
@@ -29,10 +29,10 @@ use Rattle.session.specs.Demand.{waitVerdict, heardVerdict, spokenIn, st
 use Rattle.session.specs.Turn.{Turn, numbersIn, groupIn, runningWith, refusing, waitsFor, hears, sentText, verdictText, answerText, turnBy, stepping, turn}
 
 -- THE READER'S REFUSALS, 1 to 6, end no round
-early-ends-none : (why : Refusal) → within 1 6 (numberOf why) ≡ true → ends why ≡ false
+early-ends-none : (why : Refusal) → within 1 6 (numberOf why) ≡ true → endsRound why ≡ false
 early-ends-none why e = let l = leb-true (numberOf why) 6 (and-right (leb 1 (numberOf why)) (leb (numberOf why) 6) e) in rw (lt-leb 12 (numberOf why) (omega arith))
 
-reader-ends-none : (s : Group) (line : List ℕ) (why : Refusal) → readLine s line .verdict ≡ Refused why → ends why ≡ false
+reader-ends-none : (s : Group) (line : List ℕ) (why : Refusal) → readLine s line .verdict ≡ Refused why → endsRound why ≡ false
 reader-ends-none s line why e = early-ends-none why (reader-refuses s line why e)
 
 -- A REFUSAL THAT ENDS NO ROUND leads to its X and nothing else
@@ -41,7 +41,7 @@ unfolding waitVerdict waitsFor
 wait-refused c head why =
     by-kind (λ (h : Head). waitVerdict h ≡ Refused why → waitsFor c h ≡ refusing c why) (λ v e. not-taken e) (λ h n. rw n (λ e. ap (refusing c) (same-why e))) (start-seen head)
 
-step-refused : (c : Core) (a : Message) (why : Refusal) → c .stage ≡ Running → ends why ≡ false → stepped (numbersIn c) (c .controller) a .verdict ≡ Refused why → stepping c a ≡ refusing c why
+step-refused : (c : Core) (a : Message) (why : Refusal) → c .stage ≡ Running → endsRound why ≡ false → stepped (numbersIn c) (c .controller) a .verdict ≡ Refused why → stepping c a ≡ refusing c why
 unfolding answerText sentText verdictText
 step-refused c a why r n e = rw (refused-keeps (numbersIn c) (c .controller) a why e n) (λ i. record { next = back i; text = refusalLine why })
   where
@@ -54,7 +54,7 @@ unfolding hears heardVerdict
 hears-refused c a go verdict why h Taken e = h e
 hears-refused c a go verdict why h (Refused w) e = ap (refusing c) (same-why e)
 
-refused-at : (c : Core) (line : List ℕ) (why : Refusal) (stage : Stage) → c .stage ≡ stage → (stage ≡ AtSettings → ⊥) → ends why ≡ false → verdictAt c line stage ≡ Refused why
+refused-at : (c : Core) (line : List ℕ) (why : Refusal) (stage : Stage) → c .stage ≡ stage → (stage ≡ AtSettings → ⊥) → endsRound why ≡ false → verdictAt c line stage ≡ Refused why
     → turnBy stepping c line stage ≡ refusing c why
 unfolding turnBy verdictAt
 refused-at c line why AtSettings s past n e = absurd (past refl)
@@ -64,7 +64,7 @@ refused-at c line why Running s past n e =
     hears-refused c (spokenIn c line) (stepping c) (λ a. stepped (numbersIn c) (c .controller) a .verdict) why (step-refused c (spokenIn c line) why s n) (readLine (groupIn c) line .verdict) e
 refused-at c line why Ended s past n e = not-taken e
 
-pub refused-turn : (c : Core) (line : List ℕ) (why : Refusal) → (c .stage ≡ AtSettings → ⊥) → ends why ≡ false → verdictOf c line ≡ Refused why → turn c line ≡ refusing c why
+pub refused-turn : (c : Core) (line : List ℕ) (why : Refusal) → (c .stage ≡ AtSettings → ⊥) → endsRound why ≡ false → verdictOf c line ≡ Refused why → turn c line ≡ refusing c why
 refused-turn c line why past n e = refused-at c line why (c .stage) refl past n e
 
 -- 12, 13 AND 14 come from the step alone
@@ -72,14 +72,14 @@ pub record Stepped (c : Core) (line : List ℕ) (why : Refusal) (t : Turn) : Typ
   pub verdict : stepBy c line .verdict ≡ Refused why
   pub turned : t ≡ stepping c (spokenIn c line)
 
-not-both : {A : Type 0} (why : Refusal) → ends why ≡ true → ends why ≡ false → A
+not-both : {A : Type 0} (why : Refusal) → endsRound why ≡ true → endsRound why ≡ false → A
 not-both why p q = absurd (true≢false (sym p ∙ q))
 
-wait-before : (head : Head) (why : Refusal) → waitVerdict head ≡ Refused why → ends why ≡ false
+wait-before : (head : Head) (why : Refusal) → waitVerdict head ≡ Refused why → endsRound why ≡ false
 unfolding waitVerdict
-wait-before head why = by-kind (λ (h : Head). waitVerdict h ≡ Refused why → ends why ≡ false) (λ v e. not-taken e) (λ h n. rw n (λ e. ap ends (sym (same-why e)))) (start-seen head)
+wait-before head why = by-kind (λ (h : Head). waitVerdict h ≡ Refused why → endsRound why ≡ false) (λ v e. not-taken e) (λ h n. rw n (λ e. ap endsRound (sym (same-why e)))) (start-seen head)
 
-module _ (c : Core) (line : List ℕ) (why : Refusal) (n : ends why ≡ true) where
+module _ (c : Core) (line : List ℕ) (why : Refusal) (n : endsRound why ≡ true) where
   waiting-over : {A : Type 0} (v : Verdict) → readLine (groupIn c) line .verdict ≡ v → heardVerdict (λ a. waitVerdict (a .head)) (spokenIn c line) v ≡ Refused why → A
   unfolding heardVerdict
   waiting-over Taken r e = not-both why n (wait-before (spokenIn c line .head) why e)

@@ -23,7 +23,7 @@ use Rattle.controller.specs.declared.state.Controller.{Controller}
 use Rattle.controller.specs.declared.step.Answer.{Answer}
 use Rattle.controller.specs.Step.{stepped}
 use Rattle.controller_laws.specs.Endings.{Ended as EndedBy}
-use Rattle.controller_laws.specs.Ways.{ends}
+use Rattle.controller_laws.specs.Ways.{endsRound}
 use Rattle.session.specs.declared.feed.Session.{Session}
 use Rattle.session.specs.declared.stage.Core.{Core}
 use Rattle.session.specs.declared.stage.Stage.{Stage}
@@ -105,7 +105,7 @@ pub record Demand1 (x : Session) (line piece buf : List ℕ) : Type 0 where
   pub fits : CoreFits (x .core)
   -- the line at hand is answered as document 01 has it
   pub answer : fedText x piece ≡ turn (x .core) line .text
-  pub refused : (why : Refusal) → verdictOf (x .core) line ≡ Refused why → ends why ≡ false → length (refusalLine why) ≤ length buf → Unmoved x piece buf why
-  pub round-over : (why : Refusal) → verdictOf (x .core) line ≡ Refused why → ends why ≡ true → length (answerText (numbersIn (x .core)) (stepBy (x .core) line)) ≤ length buf
+  pub refused : (why : Refusal) → verdictOf (x .core) line ≡ Refused why → endsRound why ≡ false → length (refusalLine why) ≤ length buf → Unmoved x piece buf why
+  pub round-over : (why : Refusal) → verdictOf (x .core) line ≡ Refused why → endsRound why ≡ true → length (answerText (numbersIn (x .core)) (stepBy (x .core) line)) ≤ length buf
       → RoundOver x line piece buf why
   pub no-room : length buf < length (turn (x .core) line .text) → Untouched x piece buf

@@ -56,7 +56,13 @@ loop-less : tie.Need-loop-less Inv-loop μ-loop
 loop-less c = omega arith
 
 loop-again : tie.Need-loop-again Inv-loop μ-loop
-loop-again c = let a = c .before .before .before .before .args in let v = c .before .before .before .loop in let h : v .i < 16 = omega arith in (omega arith, fill-more (place (a .mask) (a .t2) (a .old)) 0 16 (a .old) (v .next) (v .i) (c .place-merged .result) (v .inv .1) h (c .place-merged .ensures ∙ ap (λ (t : Bool). mergedAt t (getD (a .t2) (v .i) 0) (getD (v .next) (v .i) 0)) (c .before .has .ensures) ∙ ap (mergedAt (inMask (a .mask) (v .i)) (getD (a .t2) (v .i) 0)) (v .inv .1 .2 (v .i) (le-refl (v .i)))))
+loop-again c =
+    let a = c .before .before .before .before .args in let v = c .before .before .before .loop in let h : v .i < 16 = omega arith in (
+      omega arith,
+      fill-more (place (a .mask) (a .t2) (a .old)) 0 16 (a .old) (v .next) (v .i) (c .place-merged .result) (v .inv .1) h
+          (c .place-merged .ensures ∙ ap (λ (t : Bool). mergedAt t (getD (a .t2) (v .i) 0) (getD (v .next) (v .i) 0)) (c .before .has .ensures) ∙ ap
+          (mergedAt (inMask (a .mask) (v .i)) (getD (a .t2) (v .i) 0)) (v .inv .1 .2 (v .i) (le-refl (v .i)))),
+    )
 
 returns : tie.Need-returns Inv-loop μ-loop
 unfolding merged

@@ -46,7 +46,12 @@ loop-less : tie.Need-loop-less Inv-loop μ-loop
 loop-less c = omega arith
 
 loop-again : tie.Need-loop-again Inv-loop μ-loop
-loop-again c = let a = c .before .before .before .before .args in let v = c .before .before .before .loop in (omega arith, every-more (agreeAt (a .shared) (a .t2) (a .t3)) _ _ _ (v .inv .1) (c .place-agrees .ensures ∙ ap (λ (t : Bool). agreePlace t (getD (a .t2) (v .i) 0) (getD (a .t3) (v .i) 0)) (c .before .has .ensures)))
+loop-again c =
+    let a = c .before .before .before .before .args in let v = c .before .before .before .loop in (
+      omega arith,
+      every-more (agreeAt (a .shared) (a .t2) (a .t3)) _ _ _ (v .inv .1)
+          (c .place-agrees .ensures ∙ ap (λ (t : Bool). agreePlace t (getD (a .t2) (v .i) 0) (getD (a .t3) (v .i) 0)) (c .before .has .ensures)),
+    )
 
 returns : tie.Need-returns Inv-loop μ-loop
 unfolding agrees

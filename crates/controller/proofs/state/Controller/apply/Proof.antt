@@ -92,7 +92,9 @@ returns-7 c = along (applied (c .before .before .before .before .before .before 
 
 returns-8 : tie.Need-returns-8
 unfolding applied
-returns-8 c = along (applied (c .before .before .before .before .before .before .before .args .numbers) (c .before .before .before .before .before .before .before .args .message) (c .before .before .before .before .before .before .before .args .self)) (c .before .before .before .effect7 .given .1) (c .issue .ensures ∙ ap (λ (d : Controller). issuing (c .before .before .before .before .before .before .before .args .numbers) d (c .before .before .before .effect7 .given .0 .1 .1 .0)) (c .before .count2 .ensures))
+returns-8 c =
+    let a = c .before .before .before .before .before .before .before .args in
+    along (applied (a .numbers) (a .message) (a .self)) (c .before .before .before .effect7 .given .1) (c .issue .ensures ∙ ap (λ (d : Controller). issuing (a .numbers) d (c .before .before .before .effect7 .given .0 .1 .1 .0)) (c .before .count2 .ensures))
 
 returns-9 : tie.Need-returns-9
 unfolding applied

@@ -1,7 +1,9 @@
 -- `Controller::merge` meets its contract. Assumes nothing.
 use mathlib.Core.Path.{ap, _∙_}
 use lib.Bits.{bitOr}
-use Rattle.controller.specs.Effects.{holds}
+use Prim.Native.Nat.{ℕ}
+use mathlib.Core.List.{List}
+use Rattle.controller.specs.Effects.{carriedBy, holding}
 use borrow.Author.Needs.{needs}
 use Rattle.controller.proofs.state.Controller.merge.Statement.{statement}
 use Rattle.controller.proofs.state.Controller.merge.Tie as tie
@@ -13,7 +15,7 @@ holding-requires : tie.Need-holding-requires
 holding-requires c κs = search needs
 
 returns : tie.Need-returns
-returns c = let a = c .before .before .before .before .args .self in c .holding .ensures ∙ ap (holds a (bitOr (a .held) (c .before .before .before .before .args .mask))) (c .before .before .merge-readings .ensures)
+returns c = let a = c .before .before .before .before .args .self in c .holding .ensures ∙ ap (λ (x : List ℕ). holding a (carriedBy (bitOr (a .held) (c .before .before .before .before .args .mask)) x)) (c .before .before .merge-readings .ensures)
 
 pub merge-spec : {M : Type 1} → statement M
 merge-spec = tie.close (tie.spec merge-readings-requires holding-requires returns)

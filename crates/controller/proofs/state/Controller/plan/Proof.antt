@@ -65,8 +65,8 @@ ballot-requires c κs = search needs
 on-digest-requires : tie.Need-on-digest-requires
 on-digest-requires c κs = search needs
 
-judged-requires : tie.Need-judged-requires
-judged-requires c κs = search needs
+judged-plan-requires : tie.Need-judged-plan-requires
+judged-plan-requires c κs = search needs
 
 enum-known-head-7 : tie.Need-enum-known-head-7
 enum-known-head-7 c = search needs
@@ -98,8 +98,8 @@ enum-known-head-11 c = search needs
 on-floor-requires : tie.Need-on-floor-requires
 on-floor-requires c κs = search needs
 
-judged-requires-2 : tie.Need-judged-requires-2
-judged-requires-2 c κs = search needs
+judged-plan-requires-2 : tie.Need-judged-plan-requires-2
+judged-plan-requires-2 c κs = search needs
 
 enum-known-head-12 : tie.Need-enum-known-head-12
 enum-known-head-12 c = search needs
@@ -115,51 +115,94 @@ refusal-requires c κs = search needs
 
 returns : tie.Need-returns
 unfolding planned
-returns c = along (planned (c .before .before .before .before .before .before .before .before .args .numbers) (c .before .before .before .before .before .before .before .before .args .self) (c .before .before .before .before .before .before .before .before .args .message)) (c .before .before .before .head .given .1) (c .on-reading .ensures ∙ ap (λ (b : Brief). planReading b (c .before .reading .result) (c .before .before .before .head .given .0 .0) (c .before .before .before .head .given .0 .1 .0) (c .before .before .before .head .given .0 .1 .1 .0)) (c .before .before .before .before .before .brief .ensures) ∙ ap (λ (n : ℕ). planReading (briefOf (c .before .before .before .before .before .before .before .before .args .self)) n (c .before .before .before .head .given .0 .0) (c .before .before .before .head .given .0 .1 .0) (c .before .before .before .head .given .0 .1 .1 .0)) (c .before .reading .ensures))
+returns c =
+    let a = c .before .before .before .before .before .before .before .before .args in
+    along (planned (a .numbers) (a .self) (a .message)) (c .before .before .before .head .given .1)
+    (c .on-reading .ensures ∙ ap (λ (b : Brief). planReading b (c .before .reading .result) (c .before .before .before .head .given .0 .0) (c .before .before .before .head .given .0 .1 .0)
+    (c .before .before .before .head .given .0 .1 .1 .0)) (c .before .before .before .before .before .brief .ensures) ∙ ap (λ (n : ℕ). planReading (briefOf (a .self)) n
+    (c .before .before .before .head .given .0 .0) (c .before .before .before .head .given .0 .1 .0) (c .before .before .before .head .given .0 .1 .1 .0)) (c .before .reading .ensures))
 
 returns-2 : tie.Need-returns-2
 unfolding planned
-returns-2 c = along (planned (c .before .before .before .before .before .before .before .args .numbers) (c .before .before .before .before .before .before .before .args .self) (c .before .before .before .before .before .before .before .args .message)) (c .before .before .head2 .given .1) (c .on-query .ensures ∙ ap (λ (b : Brief). planQuery b (c .before .before .head2 .given .0 .0) (c .before .before .head2 .given .0 .1 .0) (c .before .before .head2 .given .0 .1 .1 .0)) (c .before .before .before .before .brief .ensures))
+returns-2 c =
+    let a = c .before .before .before .before .before .before .before .args in
+    along (planned (a .numbers) (a .self) (a .message)) (c .before .before .head2 .given .1)
+    (c .on-query .ensures ∙ ap (λ (b : Brief). planQuery b (c .before .before .head2 .given .0 .0) (c .before .before .head2 .given .0 .1 .0) (c .before .before .head2 .given .0 .1 .1 .0))
+    (c .before .before .before .before .brief .ensures))
 
 returns-3 : tie.Need-returns-3
 unfolding planned
-returns-3 c = along (planned (c .before .before .before .before .before .before .before .before .args .numbers) (c .before .before .before .before .before .before .before .before .args .self) (c .before .before .before .before .before .before .before .before .args .message)) (c .before .before .before .head3 .given .1) (c .on-reply .ensures ∙ ap (λ (b : Brief). planReply b (c .before .before .before .head3 .given .0 .0) (c .before .before .before .head3 .given .0 .1 .0) (c .before .before .before .head3 .given .0 .1 .1 .0) (c .before .clashes .result)) (c .before .before .before .before .before .brief .ensures) ∙ ap (planReply (briefOf (c .before .before .before .before .before .before .before .before .args .self)) (c .before .before .before .head3 .given .0 .0) (c .before .before .before .head3 .given .0 .1 .0) (c .before .before .before .head3 .given .0 .1 .1 .0)) (c .before .clashes .ensures))
+returns-3 c =
+    let a = c .before .before .before .before .before .before .before .before .args in
+    along (planned (a .numbers) (a .self) (a .message)) (c .before .before .before .head3 .given .1)
+    (c .on-reply .ensures ∙ ap (λ (b : Brief). planReply b (c .before .before .before .head3 .given .0 .0) (c .before .before .before .head3 .given .0 .1 .0)
+    (c .before .before .before .head3 .given .0 .1 .1 .0) (c .before .clashes .result)) (c .before .before .before .before .before .brief .ensures) ∙ ap (planReply (briefOf (a .self))
+    (c .before .before .before .head3 .given .0 .0) (c .before .before .before .head3 .given .0 .1 .0) (c .before .before .before .head3 .given .0 .1 .1 .0)) (c .before .clashes .ensures))
 
 returns-4 : tie.Need-returns-4
 unfolding planned
-returns-4 c = along (planned (c .before .before .before .before .before .before .before .args .numbers) (c .before .before .before .before .before .before .before .args .self) (c .before .before .before .before .before .before .before .args .message)) (c .before .before .head4 .given .1) (c .on-advert .ensures ∙ ap (λ (b : Brief). planAdvert b (c .before .before .head4 .given .0 .0) (c .before .before .head4 .given .0 .1 .0)) (c .before .before .before .before .brief .ensures))
+returns-4 c =
+    let a = c .before .before .before .before .before .before .before .args in
+    along (planned (a .numbers) (a .self) (a .message)) (c .before .before .head4 .given .1) (c .on-advert .ensures ∙ ap (λ (b : Brief). planAdvert b (c .before .before .head4 .given .0 .0) (c .before .before .head4 .given .0 .1 .0)) (c .before .before .before .before .brief .ensures))
 
 returns-5 : tie.Need-returns-5
 unfolding planned
-returns-5 c = along (planned (c .before .before .before .before .before .before .before .before .args .numbers) (c .before .before .before .before .before .before .before .before .args .self) (c .before .before .before .before .before .before .before .before .args .message)) (c .before .before .before .head5 .given .1) (c .on-update .ensures ∙ ap (λ (b : Brief). planUpdate b (c .before .before .before .head5 .given .0 .0) (c .before .before .before .head5 .given .0 .1 .0) (c .before .holds-state .result)) (c .before .before .before .before .before .brief .ensures) ∙ ap (planUpdate (briefOf (c .before .before .before .before .before .before .before .before .args .self)) (c .before .before .before .head5 .given .0 .0) (c .before .before .before .head5 .given .0 .1 .0)) (c .before .holds-state .ensures))
+returns-5 c =
+    let a = c .before .before .before .before .before .before .before .before .args in
+    along (planned (a .numbers) (a .self) (a .message)) (c .before .before .before .head5 .given .1)
+    (c .on-update .ensures ∙ ap (λ (b : Brief). planUpdate b (c .before .before .before .head5 .given .0 .0) (c .before .before .before .head5 .given .0 .1 .0)
+    (c .before .holds-state .result)) (c .before .before .before .before .before .brief .ensures) ∙ ap (planUpdate (briefOf (a .self)) (c .before .before .before .head5 .given .0 .0)
+    (c .before .before .before .head5 .given .0 .1 .0)) (c .before .holds-state .ensures))
 
 returns-6 : tie.Need-returns-6
 unfolding planned
-returns-6 c = along (planned (c .before .before .before .before .before .before .before .before .before .args .numbers) (c .before .before .before .before .before .before .before .before .before .args .self) (c .before .before .before .before .before .before .before .before .before .args .message)) (c .before .before .before .before .head6 .given .1) (c .judged .ensures ∙ ap (votePlan (c .before .before .before .before .before .before .before .before .before .args .numbers) (c .before .before .before .before .before .before .before .before .before .args .self)) (c .before .on-digest .ensures ∙ ap (λ (b : Brief). planDigest b (c .before .before .ballot .result) (c .before .before .before .before .head6 .given .0 .0) (c .before .before .before .before .head6 .given .0 .1 .0) (c .before .before .before .before .head6 .given .0 .1 .1 .0)) (c .before .before .before .before .before .before .brief .ensures) ∙ ap (λ (x : Ballot). planDigest (briefOf (c .before .before .before .before .before .before .before .before .before .args .self)) x (c .before .before .before .before .head6 .given .0 .0) (c .before .before .before .before .head6 .given .0 .1 .0) (c .before .before .before .before .head6 .given .0 .1 .1 .0)) (c .before .before .ballot .ensures)))
+returns-6 c =
+    let a = c .before .before .before .before .before .before .before .before .before .args in
+    along (planned (a .numbers) (a .self) (a .message)) (c .before .before .before .before .head6 .given .1)
+    (c .judged-plan .ensures ∙ ap (votePlan (a .numbers) (a .self))
+    (c .before .on-digest .ensures ∙ ap (λ (b : Brief). planDigest b (c .before .before .ballot .result) (c .before .before .before .before .head6 .given .0 .0)
+    (c .before .before .before .before .head6 .given .0 .1 .0) (c .before .before .before .before .head6 .given .0 .1 .1 .0))
+    (c .before .before .before .before .before .before .brief .ensures) ∙ ap
+    (λ (x : Ballot). planDigest (briefOf (a .self)) x (c .before .before .before .before .head6 .given .0 .0) (c .before .before .before .before .head6 .given .0 .1 .0)
+    (c .before .before .before .before .head6 .given .0 .1 .1 .0)) (c .before .before .ballot .ensures)))
 
 returns-7 : tie.Need-returns-7
 unfolding planned
-returns-7 c = along (planned (c .before .before .before .before .before .before .before .args .numbers) (c .before .before .before .before .before .before .before .args .self) (c .before .before .before .before .before .before .before .args .message)) (c .before .before .head7 .given .1) (c .on-setpoints .ensures ∙ ap (λ (b : Brief). planSetpoints b (c .before .before .head7 .given .0 .0)) (c .before .before .before .before .brief .ensures))
+returns-7 c =
+    let a = c .before .before .before .before .before .before .before .args in
+    along (planned (a .numbers) (a .self) (a .message)) (c .before .before .head7 .given .1) (c .on-setpoints .ensures ∙ ap (λ (b : Brief). planSetpoints b (c .before .before .head7 .given .0 .0)) (c .before .before .before .before .brief .ensures))
 
 returns-8 : tie.Need-returns-8
 unfolding planned
-returns-8 c = along (planned (c .before .before .before .before .before .before .before .args .numbers) (c .before .before .before .before .before .before .before .args .self) (c .before .before .before .before .before .before .before .args .message)) (c .before .before .head8 .given .1) (c .on-due .ensures ∙ ap (λ (b : Brief). planDue b (c .before .before .before .before .before .before .before .args .numbers .group .m) (c .before .before .head8 .given .0 .0)) (c .before .before .before .before .brief .ensures))
+returns-8 c =
+    let a = c .before .before .before .before .before .before .before .args in
+    along (planned (a .numbers) (a .self) (a .message)) (c .before .before .head8 .given .1) (c .on-due .ensures ∙ ap (λ (b : Brief). planDue b (a .numbers .group .m) (c .before .before .head8 .given .0 .0)) (c .before .before .before .before .brief .ensures))
 
 returns-9 : tie.Need-returns-9
 unfolding planned
-returns-9 c = along (planned (c .before .before .before .before .before .before .before .args .numbers) (c .before .before .before .before .before .before .before .args .self) (c .before .before .before .before .before .before .before .args .message)) (c .before .before .head9 .given .1) (c .on-collecting-ends .ensures ∙ ap (λ (b : Brief). planEnds b (c .before .before .head9 .given .0 .0)) (c .before .before .before .before .brief .ensures))
+returns-9 c =
+    let a = c .before .before .before .before .before .before .before .args in
+    along (planned (a .numbers) (a .self) (a .message)) (c .before .before .head9 .given .1) (c .on-collecting-ends .ensures ∙ ap (λ (b : Brief). planEnds b (c .before .before .head9 .given .0 .0)) (c .before .before .before .before .brief .ensures))
 
 returns-10 : tie.Need-returns-10
 unfolding planned
-returns-10 c = along (planned (c .before .before .before .before .before .before .before .args .numbers) (c .before .before .before .before .before .before .before .args .self) (c .before .before .before .before .before .before .before .args .message)) (c .before .before .head10 .given .1) (c .on-voting-ends .ensures ∙ ap (λ (b : Brief). planVotingEnds b (c .before .before .head10 .given .0 .0)) (c .before .before .before .before .brief .ensures))
+returns-10 c =
+    let a = c .before .before .before .before .before .before .before .args in
+    along (planned (a .numbers) (a .self) (a .message)) (c .before .before .head10 .given .1) (c .on-voting-ends .ensures ∙ ap (λ (b : Brief). planVotingEnds b (c .before .before .head10 .given .0 .0)) (c .before .before .before .before .brief .ensures))
 
 returns-11 : tie.Need-returns-11
 unfolding planned
-returns-11 c = along (planned (c .before .before .before .before .before .before .before .before .args .numbers) (c .before .before .before .before .before .before .before .before .args .self) (c .before .before .before .before .before .before .before .before .args .message)) (c .before .before .before .head11 .given .1) (c .judged2 .ensures ∙ ap (votePlan (c .before .before .before .before .before .before .before .before .args .numbers) (c .before .before .before .before .before .before .before .before .args .self)) (c .before .on-floor .ensures ∙ ap (λ (b : Brief). planFloor b (c .before .before .before .head11 .given .0 .0)) (c .before .before .before .before .before .brief .ensures)))
+returns-11 c =
+    let a = c .before .before .before .before .before .before .before .before .args in
+    along (planned (a .numbers) (a .self) (a .message)) (c .before .before .before .head11 .given .1)
+    (c .judged-plan2 .ensures ∙ ap (votePlan (a .numbers) (a .self))
+    (c .before .on-floor .ensures ∙ ap (λ (b : Brief). planFloor b (c .before .before .before .head11 .given .0 .0)) (c .before .before .before .before .before .brief .ensures)))
 
 returns-12 : tie.Need-returns-12
 unfolding planned
-returns-12 c = along (planned (c .before .before .before .before .before .before .before .args .numbers) (c .before .before .before .before .before .before .before .args .self) (c .before .before .before .before .before .before .before .args .message)) (c .before .before .head12 .given .1) (c .doing .ensures)
+returns-12 c =
+    let a = c .before .before .before .before .before .before .before .args in
+    along (planned (a .numbers) (a .self) (a .message)) (c .before .before .head12 .given .1) (c .doing .ensures)
 
 returns-13 : tie.Need-returns-13
 unfolding planned
@@ -186,7 +229,7 @@ plan-spec =
     enum-known-head-6
     ballot-requires
     on-digest-requires
-    judged-requires
+    judged-plan-requires
     enum-known-head-7
     on-setpoints-requires
     enum-known-head-8
@@ -197,7 +240,7 @@ plan-spec =
     on-voting-ends-requires
     enum-known-head-11
     on-floor-requires
-    judged-requires-2
+    judged-plan-requires-2
     enum-known-head-12
     doing-requires
     enum-told

@@ -21,11 +21,17 @@ floor-in-range-requires c κs = search needs
 
 returns : tie.Need-returns
 unfolding started
-returns c = let t = sym (ap₂ _&&_ (ap (λ (r : Bool). r && ltb (c .before .before .before .before .before .args .own) (c .before .before .before .before .before .args .numbers .group .g)) (c .before .before .before .in-range .ensures)) (c .before .floor-in-range .ensures)) ∙ c .if1 .taken in λ i. record { verdict = (by-yes {r = Taken} (Refused Range) t refl) i; controller = (c .before .before .before .before .begin .ensures) i }
+returns c =
+    let a = c .before .before .before .before .before .args in
+    let t = sym (ap₂ _&&_ (ap (λ (r : Bool). r && ltb (a .own) (a .numbers .group .g)) (c .before .before .before .in-range .ensures)) (c .before .floor-in-range .ensures))
+    ∙ c .if1 .taken in λ i. record { verdict = (by-yes {r = Taken} (Refused Range) t refl) i; controller = (c .before .before .before .before .begin .ensures) i }
 
 returns-2 : tie.Need-returns-2
 unfolding started
-returns-2 c = let t = sym (ap₂ _&&_ (ap (λ (r : Bool). r && ltb (c .before .before .before .before .before .args .own) (c .before .before .before .before .before .args .numbers .group .g)) (c .before .before .before .in-range .ensures)) (c .before .floor-in-range .ensures)) ∙ c .if1 .left in λ i. record { verdict = (by-no {r = Refused Range} Taken t refl) i; controller = (c .before .before .before .before .begin .ensures) i }
+returns-2 c =
+    let a = c .before .before .before .before .before .args in
+    let t = sym (ap₂ _&&_ (ap (λ (r : Bool). r && ltb (a .own) (a .numbers .group .g)) (c .before .before .before .in-range .ensures)) (c .before .floor-in-range .ensures))
+    ∙ c .if1 .left in λ i. record { verdict = (by-no {r = Refused Range} Taken t refl) i; controller = (c .before .before .before .before .begin .ensures) i }
 
 pub start-spec : {M : Type 1} → statement M
 start-spec =

@@ -27,28 +27,43 @@ sending-requires c κs = search needs
 
 returns : tie.Need-returns
 unfolding asking
-returns c = by-yes _ (ap (λ (p : StateLabel). ltb (c .before .before .before .before .before .before .before .before .args .self .state .0) (p .0)) (sym (c .before .before .before .before .previous .ensures)) ∙ sym (c .before .before .before .below .ensures) ∙ c .before .before .if1 .taken) (by-yes _ (eq-eqb _ 0 (sym (c .before .before .before .before .before .missing-runs .ensures) ∙ c .before .if2 .taken)) (c .sending .ensures))
+returns c =
+    by-yes _ (ap (λ (p : StateLabel). ltb (c .before .before .before .before .before .before .before .before .args .self .state .0) (p .0))
+    (sym (c .before .before .before .before .previous .ensures)) ∙ sym (c .before .before .before .below .ensures) ∙ c .before .before .if1 .taken) (by-yes _
+    (eq-eqb _ 0 (sym (c .before .before .before .before .before .missing-runs .ensures) ∙ c .before .if2 .taken)) (c .sending .ensures))
 
 sending-both-requires : tie.Need-sending-both-requires
 sending-both-requires c κs = search needs
 
 returns-2 : tie.Need-returns-2
 unfolding asking
-returns-2 c = by-yes _ (ap (λ (p : StateLabel). ltb (c .before .before .before .before .before .before .before .before .args .self .state .0) (p .0)) (sym (c .before .before .before .before .previous .ensures)) ∙ sym (c .before .before .before .below .ensures) ∙ c .before .before .if1 .taken) (by-no _ (ne-eqb _ 0 (λ z. c .before .if2 .left (c .before .before .before .before .before .missing-runs .ensures ∙ z))) (c .sending-both .ensures ∙ ap (λ (n : ℕ). both Keep (Query (c .before .before .before .before .before .before .before .before .args .self .own) (c .before .before .before .before .before .before .before .before .args .self .label) n) (Advert (c .before .before .before .before .before .before .before .before .args .self .own) (c .before .before .before .before .before .before .before .before .args .self .state))) (c .before .before .before .before .before .missing-runs .ensures)))
+returns-2 c =
+    let a = c .before .before .before .before .before .before .before .before .args in
+    by-yes _ (ap (λ (p : StateLabel). ltb (a .self .state .0) (p .0)) (sym (c .before .before .before .before .previous .ensures)) ∙ sym (c .before .before .before .below .ensures)
+    ∙ c .before .before .if1 .taken) (by-no _ (ne-eqb _ 0 (λ z. c .before .if2 .left (c .before .before .before .before .before .missing-runs .ensures ∙ z)))
+    (c .sending-both .ensures ∙ ap (λ (n : ℕ). both Keep (Query (a .self .own) (a .self .label) n) (Advert (a .self .own) (a .self .state)))
+    (c .before .before .before .before .before .missing-runs .ensures)))
 
 doing-requires : tie.Need-doing-requires
 doing-requires c κs = search needs
 
 returns-3 : tie.Need-returns-3
 unfolding asking
-returns-3 c = by-no _ (ap (λ (p : StateLabel). ltb (c .before .before .before .before .before .before .before .before .args .self .state .0) (p .0)) (sym (c .before .before .before .before .previous .ensures)) ∙ sym (c .before .before .before .below .ensures) ∙ c .before .before .if1 .left) (by-yes _ (eq-eqb _ 0 (sym (c .before .before .before .before .before .missing-runs .ensures) ∙ c .before .if3 .taken)) (c .doing .ensures))
+returns-3 c =
+    by-no _ (ap (λ (p : StateLabel). ltb (c .before .before .before .before .before .before .before .before .args .self .state .0) (p .0))
+    (sym (c .before .before .before .before .previous .ensures)) ∙ sym (c .before .before .before .below .ensures) ∙ c .before .before .if1 .left) (by-yes _
+    (eq-eqb _ 0 (sym (c .before .before .before .before .before .missing-runs .ensures) ∙ c .before .if3 .taken)) (c .doing .ensures))
 
 sending-requires-2 : tie.Need-sending-requires-2
 sending-requires-2 c κs = search needs
 
 returns-4 : tie.Need-returns-4
 unfolding asking
-returns-4 c = by-no _ (ap (λ (p : StateLabel). ltb (c .before .before .before .before .before .before .before .before .args .self .state .0) (p .0)) (sym (c .before .before .before .before .previous .ensures)) ∙ sym (c .before .before .before .below .ensures) ∙ c .before .before .if1 .left) (by-no _ (ne-eqb _ 0 (λ z. c .before .if3 .left (c .before .before .before .before .before .missing-runs .ensures ∙ z))) (c .sending2 .ensures ∙ ap (λ (n : ℕ). sends Keep (Query (c .before .before .before .before .before .before .before .before .args .self .own) (c .before .before .before .before .before .before .before .before .args .self .label) n)) (c .before .before .before .before .before .missing-runs .ensures)))
+returns-4 c =
+    let a = c .before .before .before .before .before .before .before .before .args in
+    by-no _ (ap (λ (p : StateLabel). ltb (a .self .state .0) (p .0)) (sym (c .before .before .before .before .previous .ensures)) ∙ sym (c .before .before .before .below .ensures)
+    ∙ c .before .before .if1 .left) (by-no _ (ne-eqb _ 0 (λ z. c .before .if3 .left (c .before .before .before .before .before .missing-runs .ensures ∙ z)))
+    (c .sending2 .ensures ∙ ap (λ (n : ℕ). sends Keep (Query (a .self .own) (a .self .label) n)) (c .before .before .before .before .before .missing-runs .ensures)))
 
 pub ask-spec : {M : Type 1} → statement M
 ask-spec =

@@ -15,8 +15,8 @@ enum-told-2 c = search needs
 enum-known-decision : tie.Need-enum-known-decision
 enum-known-decision c = search needs
 
-settle-requires : tie.Need-settle-requires
-settle-requires c κs = search needs
+chosen-plan-requires : tie.Need-chosen-plan-requires
+chosen-plan-requires c κs = search needs
 
 returns : tie.Need-returns
 unfolding judged
@@ -28,7 +28,7 @@ returns-2 c = along (judged (c .before .before .args .self) (c .before .before .
 
 returns-3 : tie.Need-returns-3
 unfolding judged
-returns-3 c = along (judged (c .before .before .before .before .args .self) (c .before .before .before .before .args .seat) (c .before .before .before .before .args .digest) (c .before .before .before .before .args .first)) (c .before .before .decision .given .1) (c .settle .ensures)
+returns-3 c = along (judged (c .before .before .before .before .args .self) (c .before .before .before .before .args .seat) (c .before .before .before .before .args .digest) (c .before .before .before .before .args .first)) (c .before .before .decision .given .1) (c .chosen-plan .ensures)
 
 pub judge-spec : {M : Type 1} → statement M
 judge-spec =
@@ -37,7 +37,7 @@ judge-spec =
     enum-told
     enum-told-2
     enum-known-decision
-    settle-requires
+    chosen-plan-requires
     returns
     returns-2
     returns-3)

@@ -51,19 +51,35 @@ seat-requires-3 c κs = search needs
 
 returns-3 : tie.Need-returns-3
 unfolding planDigest inDigest
-returns-3 c = by-no _ (ne-eqb _ _ (c .before .before .before .before .before .if1 .left)) (by-no _ (ap not (sym (c .before .before .before .before .same .ensures)) ∙ c .before .before .before .if2 .left) (along (inDigest (c .before .before .before .before .before .before .before .before .args .self) (c .before .before .before .before .before .before .before .before .args .cast) (c .before .before .before .before .before .before .before .before .args .sender) (c .before .before .before .before .before .before .before .before .args .digest)) (c .before .enum-told .given .1) (c .refusal3 .ensures)))
+returns-3 c =
+    let a = c .before .before .before .before .before .before .before .before .args in
+    by-no _ (ne-eqb _ _ (c .before .before .before .before .before .if1 .left))
+    (by-no _ (ap not (sym (c .before .before .before .before .same .ensures)) ∙ c .before .before .before .if2 .left)
+    (along (inDigest (a .self) (a .cast) (a .sender) (a .digest)) (c .before .enum-told .given .1) (c .refusal3 .ensures)))
 
 returns-4 : tie.Need-returns-4
 unfolding planDigest inDigest
-returns-4 c = by-no _ (ne-eqb _ _ (c .before .before .before .before .before .if1 .left)) (by-no _ (ap not (sym (c .before .before .before .before .same .ensures)) ∙ c .before .before .before .if2 .left) (along (inDigest (c .before .before .before .before .before .before .before .before .args .self) (c .before .before .before .before .before .before .before .before .args .cast) (c .before .before .before .before .before .before .before .before .args .sender) (c .before .before .before .before .before .before .before .before .args .digest)) (c .before .enum-told2 .given .1) (c .seat .ensures)))
+returns-4 c =
+    let a = c .before .before .before .before .before .before .before .before .args in
+    by-no _ (ne-eqb _ _ (c .before .before .before .before .before .if1 .left))
+    (by-no _ (ap not (sym (c .before .before .before .before .same .ensures)) ∙ c .before .before .before .if2 .left)
+    (along (inDigest (a .self) (a .cast) (a .sender) (a .digest)) (c .before .enum-told2 .given .1) (c .seat .ensures)))
 
 returns-5 : tie.Need-returns-5
 unfolding planDigest inDigest
-returns-5 c = by-no _ (ne-eqb _ _ (c .before .before .before .before .before .if1 .left)) (by-no _ (ap not (sym (c .before .before .before .before .same .ensures)) ∙ c .before .before .before .if2 .left) (along (inDigest (c .before .before .before .before .before .before .before .before .args .self) (c .before .before .before .before .before .before .before .before .args .cast) (c .before .before .before .before .before .before .before .before .args .sender) (c .before .before .before .before .before .before .before .before .args .digest)) (c .before .enum-told3 .given .1) (c .seat2 .ensures)))
+returns-5 c =
+    let a = c .before .before .before .before .before .before .before .before .args in
+    by-no _ (ne-eqb _ _ (c .before .before .before .before .before .if1 .left))
+    (by-no _ (ap not (sym (c .before .before .before .before .same .ensures)) ∙ c .before .before .before .if2 .left)
+    (along (inDigest (a .self) (a .cast) (a .sender) (a .digest)) (c .before .enum-told3 .given .1) (c .seat2 .ensures)))
 
 returns-6 : tie.Need-returns-6
 unfolding planDigest inDigest
-returns-6 c = by-no _ (ne-eqb _ _ (c .before .before .before .before .before .if1 .left)) (by-no _ (ap not (sym (c .before .before .before .before .same .ensures)) ∙ c .before .before .before .if2 .left) (along (inDigest (c .before .before .before .before .before .before .before .before .args .self) (c .before .before .before .before .before .before .before .before .args .cast) (c .before .before .before .before .before .before .before .before .args .sender) (c .before .before .before .before .before .before .before .before .args .digest)) (c .before .enum-told4 .given .1) (c .seat3 .ensures)))
+returns-6 c =
+    let a = c .before .before .before .before .before .before .before .before .args in
+    by-no _ (ne-eqb _ _ (c .before .before .before .before .before .if1 .left))
+    (by-no _ (ap not (sym (c .before .before .before .before .same .ensures)) ∙ c .before .before .before .if2 .left)
+    (along (inDigest (a .self) (a .cast) (a .sender) (a .digest)) (c .before .enum-told4 .given .1) (c .seat3 .ensures)))
 
 pub on-digest-spec : {M : Type 1} → statement M
 on-digest-spec =

@@ -43,19 +43,27 @@ refusal-requires-4 c κs = search needs
 
 returns-2 : tie.Need-returns-2
 unfolding planDue inDue
-returns-2 c = by-no _ (ap not (sym (c .before .before .before .before .same .ensures)) ∙ c .before .before .before .if1 .left) (along (inDue (c .before .before .before .before .before .before .args .self) (c .before .before .before .before .before .before .args .m)) (c .before .enum-told .given .1) (c .refusal2 .ensures))
+returns-2 c =
+    let a = c .before .before .before .before .before .before .args in
+    by-no _ (ap not (sym (c .before .before .before .before .same .ensures)) ∙ c .before .before .before .if1 .left) (along (inDue (a .self) (a .m)) (c .before .enum-told .given .1) (c .refusal2 .ensures))
 
 returns-3 : tie.Need-returns-3
 unfolding planDue inDue
-returns-3 c = by-no _ (ap not (sym (c .before .before .before .before .same .ensures)) ∙ c .before .before .before .if1 .left) (along (inDue (c .before .before .before .before .before .before .args .self) (c .before .before .before .before .before .before .args .m)) (c .before .enum-told2 .given .1) (c .ask .ensures))
+returns-3 c =
+    let a = c .before .before .before .before .before .before .args in
+    by-no _ (ap not (sym (c .before .before .before .before .same .ensures)) ∙ c .before .before .before .if1 .left) (along (inDue (a .self) (a .m)) (c .before .enum-told2 .given .1) (c .ask .ensures))
 
 returns-4 : tie.Need-returns-4
 unfolding planDue inDue
-returns-4 c = by-no _ (ap not (sym (c .before .before .before .before .same .ensures)) ∙ c .before .before .before .if1 .left) (along (inDue (c .before .before .before .before .before .before .args .self) (c .before .before .before .before .before .before .args .m)) (c .before .enum-told3 .given .1) (c .refusal3 .ensures))
+returns-4 c =
+    let a = c .before .before .before .before .before .before .args in
+    by-no _ (ap not (sym (c .before .before .before .before .same .ensures)) ∙ c .before .before .before .if1 .left) (along (inDue (a .self) (a .m)) (c .before .enum-told3 .given .1) (c .refusal3 .ensures))
 
 returns-5 : tie.Need-returns-5
 unfolding planDue inDue
-returns-5 c = by-no _ (ap not (sym (c .before .before .before .before .same .ensures)) ∙ c .before .before .before .if1 .left) (along (inDue (c .before .before .before .before .before .before .args .self) (c .before .before .before .before .before .before .args .m)) (c .before .enum-told4 .given .1) (c .refusal4 .ensures))
+returns-5 c =
+    let a = c .before .before .before .before .before .before .args in
+    by-no _ (ap not (sym (c .before .before .before .before .same .ensures)) ∙ c .before .before .before .if1 .left) (along (inDue (a .self) (a .m)) (c .before .enum-told4 .given .1) (c .refusal4 .ensures))
 
 pub on-due-spec : {M : Type 1} → statement M
 on-due-spec =

@@ -59,7 +59,11 @@ returns-3 c = by-no _ (ap not (sym (c .before .before .before .before .same .ens
 
 returns-4 : tie.Need-returns-4
 unfolding planFloor inFloor
-returns-4 c = by-no _ (ap not (sym (c .before .before .before .before .before .same .ensures)) ∙ c .before .before .before .before .if1 .left) (along (inFloor (c .before .before .before .before .before .before .before .args .self)) (c .before .before .enum-told3 .given .1) (c .sending .ensures ∙ ap (λ (d : Digest). sends (Count (c .before .before .before .before .before .before .before .args .self .own) d Voting) (Vote (c .before .before .before .before .before .before .before .args .self .own) (c .before .before .before .before .before .before .before .args .self .label) d)) (c .before .own-digest .ensures)))
+returns-4 c =
+    let a = c .before .before .before .before .before .before .before .args in
+    by-no _ (ap not (sym (c .before .before .before .before .before .same .ensures)) ∙ c .before .before .before .before .if1 .left)
+    (along (inFloor (a .self)) (c .before .before .enum-told3 .given .1)
+    (c .sending .ensures ∙ ap (λ (d : Digest). sends (Count (a .self .own) d Voting) (Vote (a .self .own) (a .self .label) d)) (c .before .own-digest .ensures)))
 
 returns-5 : tie.Need-returns-5
 unfolding planFloor inFloor

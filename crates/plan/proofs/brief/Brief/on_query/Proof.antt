@@ -51,19 +51,27 @@ answer-requires-3 c κs = search needs
 
 returns-3 : tie.Need-returns-3
 unfolding planQuery inQuery
-returns-3 c = by-no _ (ne-eqb _ _ (c .before .before .before .before .before .if1 .left)) (by-no _ (ap not (sym (c .before .before .before .before .same .ensures)) ∙ c .before .before .before .if2 .left) (along (inQuery (c .before .before .before .before .before .before .before .before .args .self) (c .before .before .before .before .before .before .before .before .args .mask)) (c .before .enum-told .given .1) (c .refusal3 .ensures)))
+returns-3 c =
+    let a = c .before .before .before .before .before .before .before .before .args in
+    by-no _ (ne-eqb _ _ (c .before .before .before .before .before .if1 .left)) (by-no _ (ap not (sym (c .before .before .before .before .same .ensures)) ∙ c .before .before .before .if2 .left) (along (inQuery (a .self) (a .mask)) (c .before .enum-told .given .1) (c .refusal3 .ensures)))
 
 returns-4 : tie.Need-returns-4
 unfolding planQuery inQuery
-returns-4 c = by-no _ (ne-eqb _ _ (c .before .before .before .before .before .if1 .left)) (by-no _ (ap not (sym (c .before .before .before .before .same .ensures)) ∙ c .before .before .before .if2 .left) (along (inQuery (c .before .before .before .before .before .before .before .before .args .self) (c .before .before .before .before .before .before .before .before .args .mask)) (c .before .enum-told2 .given .1) (c .answer .ensures)))
+returns-4 c =
+    let a = c .before .before .before .before .before .before .before .before .args in
+    by-no _ (ne-eqb _ _ (c .before .before .before .before .before .if1 .left)) (by-no _ (ap not (sym (c .before .before .before .before .same .ensures)) ∙ c .before .before .before .if2 .left) (along (inQuery (a .self) (a .mask)) (c .before .enum-told2 .given .1) (c .answer .ensures)))
 
 returns-5 : tie.Need-returns-5
 unfolding planQuery inQuery
-returns-5 c = by-no _ (ne-eqb _ _ (c .before .before .before .before .before .if1 .left)) (by-no _ (ap not (sym (c .before .before .before .before .same .ensures)) ∙ c .before .before .before .if2 .left) (along (inQuery (c .before .before .before .before .before .before .before .before .args .self) (c .before .before .before .before .before .before .before .before .args .mask)) (c .before .enum-told3 .given .1) (c .answer2 .ensures)))
+returns-5 c =
+    let a = c .before .before .before .before .before .before .before .before .args in
+    by-no _ (ne-eqb _ _ (c .before .before .before .before .before .if1 .left)) (by-no _ (ap not (sym (c .before .before .before .before .same .ensures)) ∙ c .before .before .before .if2 .left) (along (inQuery (a .self) (a .mask)) (c .before .enum-told3 .given .1) (c .answer2 .ensures)))
 
 returns-6 : tie.Need-returns-6
 unfolding planQuery inQuery
-returns-6 c = by-no _ (ne-eqb _ _ (c .before .before .before .before .before .if1 .left)) (by-no _ (ap not (sym (c .before .before .before .before .same .ensures)) ∙ c .before .before .before .if2 .left) (along (inQuery (c .before .before .before .before .before .before .before .before .args .self) (c .before .before .before .before .before .before .before .before .args .mask)) (c .before .enum-told4 .given .1) (c .answer3 .ensures)))
+returns-6 c =
+    let a = c .before .before .before .before .before .before .before .before .args in
+    by-no _ (ne-eqb _ _ (c .before .before .before .before .before .if1 .left)) (by-no _ (ap not (sym (c .before .before .before .before .same .ensures)) ∙ c .before .before .before .if2 .left) (along (inQuery (a .self) (a .mask)) (c .before .enum-told4 .given .1) (c .answer3 .ensures)))
 
 pub on-query-spec : {M : Type 1} → statement M
 on-query-spec =

@@ -35,14 +35,20 @@ reading-again-requires c κs = search needs
 
 returns-3 : tie.Need-returns-3
 unfolding planReading
-returns-3 c = by-no _ (ap not (sym (c .before .before .before .before .before .before .before2 .ensures)) ∙ c .before .before .before .before .before .if1 .left) (by-no _ (sym (c .before .before .before .before .below .ensures) ∙ c .before .before .before .if2 .left) (by-yes _ (sym (c .before .before .same .ensures) ∙ c .before .if3 .taken) (c .reading-again .ensures)))
+returns-3 c =
+    by-no _ (ap not (sym (c .before .before .before .before .before .before .before2 .ensures)) ∙ c .before .before .before .before .before .if1 .left)
+    (by-no _ (sym (c .before .before .before .before .below .ensures) ∙ c .before .before .before .if2 .left)
+    (by-yes _ (sym (c .before .before .same .ensures) ∙ c .before .if3 .taken) (c .reading-again .ensures)))
 
 doing-requires : tie.Need-doing-requires
 doing-requires c κs = search needs
 
 returns-4 : tie.Need-returns-4
 unfolding planReading
-returns-4 c = by-no _ (ap not (sym (c .before .before .before .before .before .before .before2 .ensures)) ∙ c .before .before .before .before .before .if1 .left) (by-no _ (sym (c .before .before .before .before .below .ensures) ∙ c .before .before .before .if2 .left) (by-no _ (sym (c .before .before .same .ensures) ∙ c .before .if3 .left) (c .doing .ensures)))
+returns-4 c =
+    by-no _ (ap not (sym (c .before .before .before .before .before .before .before2 .ensures)) ∙ c .before .before .before .before .before .if1 .left)
+    (by-no _ (sym (c .before .before .before .before .below .ensures) ∙ c .before .before .before .if2 .left)
+    (by-no _ (sym (c .before .before .same .ensures) ∙ c .before .if3 .left) (c .doing .ensures)))
 
 pub on-reading-spec : {M : Type 1} → statement M
 on-reading-spec =

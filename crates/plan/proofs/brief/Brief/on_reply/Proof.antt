@@ -54,23 +54,37 @@ refusal-requires-6 c κs = search needs
 
 returns-3 : tie.Need-returns-3
 unfolding planReply inReply
-returns-3 c = by-no _ (ne-eqb _ _ (c .before .before .before .before .before .if1 .left)) (by-no _ (ap not (sym (c .before .before .before .before .same .ensures)) ∙ c .before .before .before .if2 .left) (along (inReply (c .before .before .before .before .before .before .before .before .args .mask) (c .before .before .before .before .before .before .before .before .args .clash)) (c .before .enum-told .given .1) (c .refusal3 .ensures)))
+returns-3 c =
+    let a = c .before .before .before .before .before .before .before .before .args in
+    by-no _ (ne-eqb _ _ (c .before .before .before .before .before .if1 .left)) (by-no _ (ap not (sym (c .before .before .before .before .same .ensures)) ∙ c .before .before .before .if2 .left) (along (inReply (a .mask) (a .clash)) (c .before .enum-told .given .1) (c .refusal3 .ensures)))
 
 returns-4 : tie.Need-returns-4
 unfolding planReply inReply
-returns-4 c = by-no _ (ne-eqb _ _ (c .before .before .before .before .before .before .if1 .left)) (by-no _ (ap not (sym (c .before .before .before .before .before .same .ensures)) ∙ c .before .before .before .before .if2 .left) (along (inReply (c .before .before .before .before .before .before .before .before .before .args .mask) (c .before .before .before .before .before .before .before .before .before .args .clash)) (c .before .before .enum-told2 .given .1) (by-yes _ (c .before .if3 .taken) (c .refusal4 .ensures))))
+returns-4 c =
+    let a = c .before .before .before .before .before .before .before .before .before .args in
+    by-no _ (ne-eqb _ _ (c .before .before .before .before .before .before .if1 .left))
+    (by-no _ (ap not (sym (c .before .before .before .before .before .same .ensures)) ∙ c .before .before .before .before .if2 .left)
+    (along (inReply (a .mask) (a .clash)) (c .before .before .enum-told2 .given .1) (by-yes _ (c .before .if3 .taken) (c .refusal4 .ensures))))
 
 returns-5 : tie.Need-returns-5
 unfolding planReply inReply
-returns-5 c = by-no _ (ne-eqb _ _ (c .before .before .before .before .before .before .if1 .left)) (by-no _ (ap not (sym (c .before .before .before .before .before .same .ensures)) ∙ c .before .before .before .before .if2 .left) (along (inReply (c .before .before .before .before .before .before .before .before .before .args .mask) (c .before .before .before .before .before .before .before .before .before .args .clash)) (c .before .before .enum-told2 .given .1) (by-no _ (c .before .if3 .left) (c .doing .ensures))))
+returns-5 c =
+    let a = c .before .before .before .before .before .before .before .before .before .args in
+    by-no _ (ne-eqb _ _ (c .before .before .before .before .before .before .if1 .left))
+    (by-no _ (ap not (sym (c .before .before .before .before .before .same .ensures)) ∙ c .before .before .before .before .if2 .left)
+    (along (inReply (a .mask) (a .clash)) (c .before .before .enum-told2 .given .1) (by-no _ (c .before .if3 .left) (c .doing .ensures))))
 
 returns-6 : tie.Need-returns-6
 unfolding planReply inReply
-returns-6 c = by-no _ (ne-eqb _ _ (c .before .before .before .before .before .if1 .left)) (by-no _ (ap not (sym (c .before .before .before .before .same .ensures)) ∙ c .before .before .before .if2 .left) (along (inReply (c .before .before .before .before .before .before .before .before .args .mask) (c .before .before .before .before .before .before .before .before .args .clash)) (c .before .enum-told3 .given .1) (c .refusal5 .ensures)))
+returns-6 c =
+    let a = c .before .before .before .before .before .before .before .before .args in
+    by-no _ (ne-eqb _ _ (c .before .before .before .before .before .if1 .left)) (by-no _ (ap not (sym (c .before .before .before .before .same .ensures)) ∙ c .before .before .before .if2 .left) (along (inReply (a .mask) (a .clash)) (c .before .enum-told3 .given .1) (c .refusal5 .ensures)))
 
 returns-7 : tie.Need-returns-7
 unfolding planReply inReply
-returns-7 c = by-no _ (ne-eqb _ _ (c .before .before .before .before .before .if1 .left)) (by-no _ (ap not (sym (c .before .before .before .before .same .ensures)) ∙ c .before .before .before .if2 .left) (along (inReply (c .before .before .before .before .before .before .before .before .args .mask) (c .before .before .before .before .before .before .before .before .args .clash)) (c .before .enum-told4 .given .1) (c .refusal6 .ensures)))
+returns-7 c =
+    let a = c .before .before .before .before .before .before .before .before .args in
+    by-no _ (ne-eqb _ _ (c .before .before .before .before .before .if1 .left)) (by-no _ (ap not (sym (c .before .before .before .before .same .ensures)) ∙ c .before .before .before .if2 .left) (along (inReply (a .mask) (a .clash)) (c .before .enum-told4 .given .1) (c .refusal6 .ensures)))
 
 pub on-reply-spec : {M : Type 1} → statement M
 on-reply-spec =

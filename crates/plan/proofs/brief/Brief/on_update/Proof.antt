@@ -43,19 +43,27 @@ refusal-requires-3 c κs = search needs
 
 returns-2 : tie.Need-returns-2
 unfolding planUpdate inUpdate
-returns-2 c = by-no _ (ne-eqb _ _ (c .before .before .before .if1 .left)) (along (inUpdate (c .before .before .before .before .before .args .self) (c .before .before .before .before .before .args .theirs) (c .before .before .before .before .before .args .same)) (c .before .enum-told .given .1) (c .adopt .ensures))
+returns-2 c =
+    let a = c .before .before .before .before .before .args in
+    by-no _ (ne-eqb _ _ (c .before .before .before .if1 .left)) (along (inUpdate (a .self) (a .theirs) (a .same)) (c .before .enum-told .given .1) (c .adopt .ensures))
 
 returns-3 : tie.Need-returns-3
 unfolding planUpdate inUpdate
-returns-3 c = by-no _ (ne-eqb _ _ (c .before .before .before .before .if1 .left)) (along (inUpdate (c .before .before .before .before .before .before .args .self) (c .before .before .before .before .before .before .args .theirs) (c .before .before .before .before .before .before .args .same)) (c .before .before .enum-told2 .given .1) (c .adopt2 .ensures ∙ ap (adopted (c .before .before .before .before .before .before .args .self) (c .before .before .before .before .before .before .args .theirs) (c .before .before .before .before .before .before .args .same)) (c .before .phase-after .ensures)))
+returns-3 c =
+    let a = c .before .before .before .before .before .before .args in
+    by-no _ (ne-eqb _ _ (c .before .before .before .before .if1 .left)) (along (inUpdate (a .self) (a .theirs) (a .same)) (c .before .before .enum-told2 .given .1) (c .adopt2 .ensures ∙ ap (adopted (a .self) (a .theirs) (a .same)) (c .before .phase-after .ensures)))
 
 returns-4 : tie.Need-returns-4
 unfolding planUpdate inUpdate
-returns-4 c = by-no _ (ne-eqb _ _ (c .before .before .before .if1 .left)) (along (inUpdate (c .before .before .before .before .before .args .self) (c .before .before .before .before .before .args .theirs) (c .before .before .before .before .before .args .same)) (c .before .enum-told3 .given .1) (c .refusal2 .ensures))
+returns-4 c =
+    let a = c .before .before .before .before .before .args in
+    by-no _ (ne-eqb _ _ (c .before .before .before .if1 .left)) (along (inUpdate (a .self) (a .theirs) (a .same)) (c .before .enum-told3 .given .1) (c .refusal2 .ensures))
 
 returns-5 : tie.Need-returns-5
 unfolding planUpdate inUpdate
-returns-5 c = by-no _ (ne-eqb _ _ (c .before .before .before .if1 .left)) (along (inUpdate (c .before .before .before .before .before .args .self) (c .before .before .before .before .before .args .theirs) (c .before .before .before .before .before .args .same)) (c .before .enum-told4 .given .1) (c .refusal3 .ensures))
+returns-5 c =
+    let a = c .before .before .before .before .before .args in
+    by-no _ (ne-eqb _ _ (c .before .before .before .if1 .left)) (along (inUpdate (a .self) (a .theirs) (a .same)) (c .before .enum-told4 .given .1) (c .refusal3 .ensures))
 
 pub on-update-spec : {M : Type 1} → statement M
 on-update-spec =

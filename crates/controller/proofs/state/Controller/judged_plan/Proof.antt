@@ -1,10 +1,10 @@
--- `Controller::judged` meets its contract. Assumes nothing.
+-- `Controller::judged_plan` meets its contract. Assumes nothing.
 use mathlib.Core.Path.{refl}
 use Rattle.units.proofs.Picked.{along}
 use Rattle.controller.specs.Step.{judgedPlan}
 use borrow.Author.Needs.{needs}
-use Rattle.controller.proofs.state.Controller.judged.Statement.{statement}
-use Rattle.controller.proofs.state.Controller.judged.Tie as tie
+use Rattle.controller.proofs.state.Controller.judged_plan.Statement.{statement}
+use Rattle.controller.proofs.state.Controller.judged_plan.Tie as tie
 
 enum-told : tie.Need-enum-told
 enum-told c = search needs
@@ -27,8 +27,8 @@ enum-told-6 c = search needs
 enum-known-effect : tie.Need-enum-known-effect
 enum-known-effect c = search needs
 
-counted-requires : tie.Need-counted-requires
-counted-requires c κs = search needs
+judged-in-requires : tie.Need-judged-in-requires
+judged-in-requires c κs = search needs
 
 enum-told-7 : tie.Need-enum-told-7
 enum-told-7 c = search needs
@@ -62,7 +62,7 @@ returns-6 c = along (judgedPlan (c .before .before .args .numbers) (c .before .b
 
 returns-7 : tie.Need-returns-7
 unfolding judgedPlan
-returns-7 c = along (judgedPlan (c .before .before .before .before .args .numbers) (c .before .before .before .before .args .self) (c .before .before .before .before .args .plan)) (c .before .before .effect .given .1) (c .counted .ensures)
+returns-7 c = along (judgedPlan (c .before .before .before .before .args .numbers) (c .before .before .before .before .args .self) (c .before .before .before .before .args .plan)) (c .before .before .effect .given .1) (c .judged-in .ensures)
 
 returns-8 : tie.Need-returns-8
 unfolding judgedPlan
@@ -72,8 +72,8 @@ returns-9 : tie.Need-returns-9
 unfolding judgedPlan
 returns-9 c = along (judgedPlan (c .before .before .args .numbers) (c .before .before .args .self) (c .before .before .args .plan)) (c .enum-told8 .given .1) (refl)
 
-pub judged-spec : {M : Type 1} → statement M
-judged-spec =
+pub judged-plan-spec : {M : Type 1} → statement M
+judged-plan-spec =
     tie.close
     (tie.spec
     enum-told
@@ -83,7 +83,7 @@ judged-spec =
     enum-told-5
     enum-told-6
     enum-known-effect
-    counted-requires
+    judged-in-requires
     enum-told-7
     enum-told-8
     returns

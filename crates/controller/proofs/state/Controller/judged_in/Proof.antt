@@ -1,4 +1,4 @@
--- `Controller::counted` meets its contract. Assumes nothing.
+-- `Controller::judged_in` meets its contract. Assumes nothing.
 use mathlib.Core.Path.{refl, ap, _∙_}
 use Rattle.units.proofs.Picked.{along}
 use Rattle.controller.specs.Step.{judgedIn}
@@ -6,8 +6,8 @@ use Rattle.controller.specs.State.{briefOf}
 use Rattle.plan.specs.Votes.{judged}
 use Rattle.plan.specs.declared.brief.Brief.{Brief}
 use borrow.Author.Needs.{needs}
-use Rattle.controller.proofs.state.Controller.counted.Statement.{statement}
-use Rattle.controller.proofs.state.Controller.counted.Tie as tie
+use Rattle.controller.proofs.state.Controller.judged_in.Statement.{statement}
+use Rattle.controller.proofs.state.Controller.judged_in.Tie as tie
 
 enum-told : tie.Need-enum-told
 enum-told c = search needs
@@ -21,8 +21,8 @@ enum-told-3 c = search needs
 enum-told-4 : tie.Need-enum-told-4
 enum-told-4 c = search needs
 
-decision-requires : tie.Need-decision-requires
-decision-requires c κs = search needs
+decision-with-requires : tie.Need-decision-with-requires
+decision-with-requires c κs = search needs
 
 brief-requires : tie.Need-brief-requires
 brief-requires c κs = search needs
@@ -44,17 +44,21 @@ returns-3 c = along (judgedIn (c .before .before .args .numbers) (c .before .bef
 
 returns-4 : tie.Need-returns-4
 unfolding judgedIn
-returns-4 c = along (judgedIn (c .before .before .before .before .before .args .numbers) (c .before .before .before .before .before .args .self) (c .before .before .before .before .before .args .plan) (c .before .before .before .before .before .args .seat) (c .before .before .before .before .before .args .digest)) (c .before .before .before .enum-told4 .given .1) (c .judge .ensures ∙ ap (λ (b : Brief). judged b (c .before .before .before .before .before .args .seat) (c .before .before .before .before .before .args .digest) (c .before .before .before .before .before .args .plan .first) (c .before .before .decision .result)) (c .before .brief .ensures) ∙ ap (judged (briefOf (c .before .before .before .before .before .args .self)) (c .before .before .before .before .before .args .seat) (c .before .before .before .before .before .args .digest) (c .before .before .before .before .before .args .plan .first)) (c .before .before .decision .ensures))
+returns-4 c =
+    let a = c .before .before .before .before .before .args in
+    along (judgedIn (a .numbers) (a .self) (a .plan) (a .seat) (a .digest)) (c .before .before .before .enum-told4 .given .1)
+    (c .judge .ensures ∙ ap (λ (b : Brief). judged b (a .seat) (a .digest) (a .plan .first) (c .before .before .decision-with .result)) (c .before .brief .ensures) ∙ ap
+    (judged (briefOf (a .self)) (a .seat) (a .digest) (a .plan .first)) (c .before .before .decision-with .ensures))
 
-pub counted-spec : {M : Type 1} → statement M
-counted-spec =
+pub judged-in-spec : {M : Type 1} → statement M
+judged-in-spec =
     tie.close
     (tie.spec
     enum-told
     enum-told-2
     enum-told-3
     enum-told-4
-    decision-requires
+    decision-with-requires
     brief-requires
     judge-requires
     returns

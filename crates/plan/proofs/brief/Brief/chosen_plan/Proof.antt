@@ -1,11 +1,11 @@
--- `Brief::settle` meets its contract. Assumes nothing.
+-- `Brief::chosen_plan` meets its contract. Assumes nothing.
 use mathlib.Core.Path.{sym, ap, _∙_}
 use mathlib.Core.Bool.{not}
 use Rattle.units.proofs.Picked.{by-yes, by-no}
 use Rattle.plan.specs.Votes.{chosenPlan}
 use borrow.Author.Needs.{needs}
-use Rattle.plan.proofs.brief.Brief.settle.Statement.{statement}
-use Rattle.plan.proofs.brief.Brief.settle.Tie as tie
+use Rattle.plan.proofs.brief.Brief.chosen_plan.Statement.{statement}
+use Rattle.plan.proofs.brief.Brief.chosen_plan.Tie as tie
 
 before-requires : tie.Need-before-requires
 before-requires c κs = search needs
@@ -34,8 +34,8 @@ returns-3 : tie.Need-returns-3
 unfolding chosenPlan
 returns-3 c = by-no _ (ap not (sym (c .before .before .before .before .before2 .ensures)) ∙ c .before .before .before .if1 .left) (by-no _ (ap not (sym (c .before .before .possesses .ensures)) ∙ c .before .if2 .left) (c .sending-after .ensures))
 
-pub settle-spec : {M : Type 1} → statement M
-settle-spec =
+pub chosen-plan-spec : {M : Type 1} → statement M
+chosen-plan-spec =
     tie.close
     (tie.spec
     before-requires
