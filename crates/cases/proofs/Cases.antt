@@ -1,10 +1,8 @@
 -- Document 01's cases hold: one test over the table, which the checker computes, and one law from the test to the statement. Assumes nothing.
-use Prim.Native.Nat.{ℕ}
-use native.Mathlib.Omega.{arith}
 use mathlib.Core.Path.{_≡_, refl, ap, subst}
 use mathlib.Core.Bool.{Bool, true, false, _&&_}
 use mathlib.Core.List.{List, [], _∷_}
-use Rattle.units.proofs.Every.{and-left, and-right}
+use Rattle.units.proofs.Every.{no-way, and-left, and-right}
 use Rattle.vote.specs.declared.judge.Decision.{Decision}
 use Rattle.vote.specs.declared.judge.Decision.the-variants.{Undecided, Decided, Refused}
 use Rattle.vote.specs.Digest.{same}
@@ -54,14 +52,14 @@ testEach (r ∷ rs) = test r && testEach rs
 
 same-decision : (a b : Decision) → sameDecision a b ≡ true → a ≡ b
 unfolding sameDecision
-same-decision (Refused a) (Refused b) h = let z : _≡_ {A = ℕ} 0 1 = cc in absurd (omega arith)
-same-decision (Refused a) Undecided h = let z : _≡_ {A = ℕ} 0 1 = cc in absurd (omega arith)
-same-decision (Refused a) (Decided e) h = let z : _≡_ {A = ℕ} 0 1 = cc in absurd (omega arith)
-same-decision Undecided (Refused b) h = let z : _≡_ {A = ℕ} 0 1 = cc in absurd (omega arith)
+same-decision (Refused a) (Refused b) h = no-way h
+same-decision (Refused a) Undecided h = no-way h
+same-decision (Refused a) (Decided e) h = no-way h
+same-decision Undecided (Refused b) h = no-way h
 same-decision Undecided Undecided h = refl
-same-decision Undecided (Decided e) h = let z : _≡_ {A = ℕ} 0 1 = cc in absurd (omega arith)
-same-decision (Decided d) (Refused b) h = let z : _≡_ {A = ℕ} 0 1 = cc in absurd (omega arith)
-same-decision (Decided d) Undecided h = let z : _≡_ {A = ℕ} 0 1 = cc in absurd (omega arith)
+same-decision Undecided (Decided e) h = no-way h
+same-decision (Decided d) (Refused b) h = no-way h
+same-decision (Decided d) Undecided h = no-way h
 same-decision (Decided d) (Decided e) h = ap Decided (same-true d e h)
 
 measures-is : (c : RunCase) (p : Part) → measures c p ≡ true → Measures c p
