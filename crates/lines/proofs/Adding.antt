@@ -43,7 +43,7 @@ module _ (f : ℕ → List ℕ) (from : List ℕ) where
   add-start v n l e = record { long = l; same = e ∙ sym (append-nil from) }
 
   module _ (v : List ℕ) (at i : ℕ) (w : Adding f from v at i) where
-    pub add-none : f i ≡ [] → Adding f from v at (i + 1)
+    add-none : f i ≡ [] → Adding f from v at (i + 1)
     unfolding joined
     add-none e = record { long = w .long; same = rw (add-one i, e, append-nil (joined f i)) (w .same) }
 
@@ -69,15 +69,15 @@ module _ (f : ℕ → List ℕ) (from : List ℕ) where
               (append-assoc (from ++ joined f i) (y ∷ []) (z ∷ []) ∙ append-assoc from (joined f i) (y ∷ z ∷ []));
         }
 
-    pub add-count : at ≤ 34 → at ≡ length (from ++ joined f i)
+    add-count : at ≤ 34 → at ≡ length (from ++ joined f i)
     add-count h = sym (length-take-le at v (let l = w .long in omega arith)) ∙ ap length (w .same)
 
 -- READINGS
-pub raw-here : (mask : ℕ) (rs : List ℕ) (i : ℕ) (b : Bool) → b ≡ inMask mask i → b ≡ true → rawOf mask rs i ≡ getD rs i 0 ∷ []
+raw-here : (mask : ℕ) (rs : List ℕ) (i : ℕ) (b : Bool) → b ≡ inMask mask i → b ≡ true → rawOf mask rs i ≡ getD rs i 0 ∷ []
 unfolding pick
 raw-here mask rs i b e t = rw (← e, t)
 
-pub raw-none : (mask : ℕ) (rs : List ℕ) (i : ℕ) (b : Bool) → b ≡ inMask mask i → b ≡ false → rawOf mask rs i ≡ []
+raw-none : (mask : ℕ) (rs : List ℕ) (i : ℕ) (b : Bool) → b ≡ inMask mask i → b ≡ false → rawOf mask rs i ≡ []
 unfolding pick
 raw-none mask rs i b e t = rw (← e, t)
 
@@ -86,7 +86,7 @@ unfolding joined pick
 no-raws rs zero = refl
 no-raws rs (suc n) = rw (no-raws rs n, no-run n)
 
-pub raws-short : (mask : ℕ) (rs : List ℕ) (n : ℕ) → length (joined (rawOf mask rs) n) ≤ n
+raws-short : (mask : ℕ) (rs : List ℕ) (n : ℕ) → length (joined (rawOf mask rs) n) ≤ n
 unfolding joined pick
 raws-short mask rs zero = omega arith
 raws-short mask rs (suc n) =

@@ -34,25 +34,25 @@ pub word-is : (n : ℕ) → n ≤ labelTop → word n ≡ n
 word-is n h = mod-eq-of-lt (omega arith)
 
 -- LISTS JOINED
-pub joined-same : (f g : ℕ → List ℕ) (n : ℕ) → ((i : ℕ) → i < n → f i ≡ g i) → joined f n ≡ joined g n
+joined-same : (f g : ℕ → List ℕ) (n : ℕ) → ((i : ℕ) → i < n → f i ≡ g i) → joined f n ≡ joined g n
 unfolding joined
 joined-same f g zero h = refl
 joined-same f g (suc n) h = rw (joined-same f g n (λ i l. h i (omega arith)), h n (omega arith))
 
 -- they are the front of a list that goes on with each of them
-pub joined-front : (f : ℕ → List ℕ) (w : ℕ → ℕ) (l : List ℕ) (n : ℕ) → w 0 ≡ 0 → ((i : ℕ) → i < n → take (w (suc i)) l ≡ take (w i) l ++ f i) → joined f n ≡ take (w n) l
+joined-front : (f : ℕ → List ℕ) (w : ℕ → ℕ) (l : List ℕ) (n : ℕ) → w 0 ≡ 0 → ((i : ℕ) → i < n → take (w (suc i)) l ≡ take (w i) l ++ f i) → joined f n ≡ take (w n) l
 unfolding joined
 joined-front f w l zero z h = rw z
 joined-front f w l (suc n) z h = rw (joined-front f w l n z (λ i k. h i (omega arith))) (sym (h n (omega arith)))
 
 module _ (f : ℕ → List ℕ) (w : ℕ → ℕ) (z : w 0 ≡ 0) (more : (i : ℕ) → w (suc i) ≡ w i + length (f i)) where
-  pub joined-length : (n : ℕ) → length (joined f n) ≡ w n
+  joined-length : (n : ℕ) → length (joined f n) ≡ w n
   unfolding joined
   joined-length zero = sym z
   joined-length (suc n) = length-append (joined f n) (f n) ∙ (let a = joined-length n in let b = more n in omega arith)
 
   -- number j of list i
-  pub joined-at : (n i j : ℕ) → i < n → j < length (f i) → getD (joined f n) (w i + j) 0 ≡ getD (f i) j 0
+  joined-at : (n i j : ℕ) → i < n → j < length (f i) → getD (joined f n) (w i + j) 0 ≡ getD (f i) j 0
   unfolding joined
   joined-at zero i j h k = absurd (omega arith)
   joined-at (suc n) i j h k =
@@ -69,7 +69,7 @@ module _ (f : ℕ → List ℕ) (w : ℕ → ℕ) (z : w 0 ≡ 0) (more : (i : �
 abbrev pub rank : ℕ → ℕ → ℕ
 rank mask i = ones (mask % 2 ^ i)
 
-pub rank-none : (mask : ℕ) → rank mask 0 ≡ 0
+rank-none : (mask : ℕ) → rank mask 0 ≡ 0
 rank-none mask = let f = bits-few mask 0 in omega arith
 
 pub rank-suc : (mask i : ℕ) → rank mask (suc i) ≡ tally (inMask mask i) (rank mask i)

@@ -41,7 +41,7 @@ pub record Meant (k : Kind) (s : Group) (vs : List ℕ) : Type 0 where
   pub kind : kindIs (messageOf s k vs .head) ≡ k
 
 -- LISTS OF A KNOWN LENGTH
-pub of-one : (vs : List ℕ) → length vs ≡ 1 → getD vs 0 0 ∷ [] ≡ vs
+of-one : (vs : List ℕ) → length vs ≡ 1 → getD vs 0 0 ∷ [] ≡ vs
 of-one [] e = absurd (omega arith)
 of-one (a ∷ []) e = refl
 of-one (a ∷ b ∷ vs) e = absurd (omega arith)
@@ -54,7 +54,7 @@ pub of-three : (vs : List ℕ) → length vs ≡ 3 → getD vs 0 0 ∷ getD vs 1
 of-three [] e = absurd (omega arith)
 of-three (a ∷ vs) e = ap (λ (l : List ℕ). a ∷ l) (of-two vs (omega arith))
 
-pub of-four : (vs : List ℕ) → length vs ≡ 4 → getD vs 0 0 ∷ getD vs 1 0 ∷ getD vs 2 0 ∷ getD vs 3 0 ∷ [] ≡ vs
+of-four : (vs : List ℕ) → length vs ≡ 4 → getD vs 0 0 ∷ getD vs 1 0 ∷ getD vs 2 0 ∷ getD vs 3 0 ∷ [] ≡ vs
 of-four [] e = absurd (omega arith)
 of-four (a ∷ vs) e = ap (λ (l : List ℕ). a ∷ l) (of-three vs (omega arith))
 

@@ -34,14 +34,14 @@ written-short sp n =
 
 -- ONE NUMBER MORE
 module _ (kind : Kind) (v : List ℕ) where
-  pub texts-more : (k : ℕ) → tabbed (textsTo kind v (k + 1)) ≡ tabbed (textsTo kind v k) ++ (9 ∷ spelledAt kind v k)
+  texts-more : (k : ℕ) → tabbed (textsTo kind v (k + 1)) ≡ tabbed (textsTo kind v k) ++ (9 ∷ spelledAt kind v k)
   unfolding column tabbed
   texts-more k = rw (add-one k) (tabbed-append (textsTo kind v k) (spelledAt kind v k ∷ []) ∙ rw (append-nil (spelledAt kind v k)))
 
-  pub texts-longer : (k : ℕ) → length (tabbed (textsTo kind v (k + 1))) ≡ length (tabbed (textsTo kind v k)) + (1 + length (spelledAt kind v k))
+  texts-longer : (k : ℕ) → length (tabbed (textsTo kind v (k + 1))) ≡ length (tabbed (textsTo kind v k)) + (1 + length (spelledAt kind v k))
   texts-longer k = ap length (texts-more k) ∙ length-append (tabbed (textsTo kind v k)) (9 ∷ spelledAt kind v k) ∙ omega arith
 
-  pub texts-room : (k n : ℕ) → k < n → length (tabbed (textsTo kind v k)) + (1 + length (spelledAt kind v k)) ≤ length (tabbed (textsTo kind v n))
+  texts-room : (k n : ℕ) → k < n → length (tabbed (textsTo kind v k)) + (1 + length (spelledAt kind v k)) ≤ length (tabbed (textsTo kind v n))
   texts-room k zero h = absurd (omega arith)
   texts-room k (suc n) h =
       let a : length (tabbed (textsTo kind v (suc n))) ≡ length (tabbed (textsTo kind v n)) + (1 + length (spelledAt kind v n)) = rw (← add-one n) (texts-longer n) in
@@ -87,7 +87,7 @@ module _ (kind : Kind) (v : List ℕ) where
           (sets-append T (9 ∷ spelledAt kind v k) l 1)
 
 -- THE WHOLE LINE
-pub texts-taken : (kind : Kind) (v : List ℕ) (n : ℕ) → n ≤ length v → textsTo kind (take n v) (length (take n v)) ≡ textsTo kind v n
+texts-taken : (kind : Kind) (v : List ℕ) (n : ℕ) → n ≤ length v → textsTo kind (take n v) (length (take n v)) ≡ textsTo kind v n
 texts-taken kind v n h = rw (length-take-le n v h) (column-same (spelledAt kind (take n v)) (spelledAt kind v) n (λ i l. rw (getD-take n v i 0 l)))
 
 module _ (kind : Kind) (v : List ℕ) (n : ℕ) (h : n ≤ length v) where
@@ -95,7 +95,7 @@ module _ (kind : Kind) (v : List ℕ) (n : ℕ) (h : n ≤ length v) where
   unfolding lineOf
   line-is = rw (texts-taken kind v n h)
 
-  pub line-length : length (lineOf kind (take n v)) ≡ 2 + length (tabbed (textsTo kind v n))
+  line-length : length (lineOf kind (take n v)) ≡ 2 + length (tabbed (textsTo kind v n))
   line-length = rw line-is (let a = length-append (tabbed (textsTo kind v n)) (10 ∷ []) in omega arith)
 
   module _ (len w : ℕ) (b : List ℕ) (le : len ≡ 2 + w) (we : w ≡ length (tabbed (textsTo kind v n))) where

@@ -40,7 +40,7 @@ module _ (l : List ℕ) (at : ℕ) (s : List ℕ) (h : at + (1 + length s) ≤ l
   tab-put r d re de = (re ∙ end-room (set l at 9) (at + 1) s room ∙ omega arith, de ∙ put-room (set l at 9) (at + 1) s room ∙ rw (add-one at))
 
 -- one run of bytes after the other
-pub both-put : (l d e x y : List ℕ) (at r q : ℕ) → (r ≡ at + length x) × (d ≡ sets l at x) → (q ≡ r + length y) × (e ≡ sets d r y) → (q ≡ at + length (x ++ y)) × (e ≡ sets l at (x ++ y))
+both-put : (l d e x y : List ℕ) (at r q : ℕ) → (r ≡ at + length x) × (d ≡ sets l at x) → (q ≡ r + length y) × (e ≡ sets d r y) → (q ≡ at + length (x ++ y)) × (e ≡ sets l at (x ++ y))
 both-put l d e x y at r q p t = (let a = length-append x y in let b = p .0 in let c = t .0 in omega arith, t .1 ∙ rw (p .1, p .0) (sets-append x y l at))
 
 -- one field after the other
@@ -157,7 +157,7 @@ module _ (s : Settings) (k : ℕ) (f : settingFits s k ≡ true) where
     filter-put n e v h = rw (ne-eqb k 1 n, eq-eqb k 2 e, ← v) h
 
   module _ (n₁ : k ≡ 1 → ⊥) (n₂ : k ≡ 2 → ⊥) (run : ℕ) (re : run ≡ k - 3) where
-    pub run-below : run < s .numbers .group .m
+    run-below : run < s .numbers .group .m
     run-below = let u = unpacked in omega arith
 
     pub run-few : run < 16

@@ -159,7 +159,7 @@ by-only l f n next e =
     let o = field-only (l .spelling) (l .low) (l .high) 0 f n next e in
     record { spelt = o .spelt ∙ sym (written-is (l .spelling) n (fits-range (l .spelling) (l .low) (l .high) n (o .inside) .can)); inside = o .inside }
 
-abbrev pub runFields : ℕ → List ℕ → ℕ → ℕ → List (List ℕ)
+abbrev runFields : ℕ → List ℕ → ℕ → ℕ → List (List ℕ)
 runFields run cs factor weight = runNumber 0 run ∷ cs ∷ runNumber 1 factor ∷ runNumber 2 weight ∷ []
 
 -- what stands in a line K whose turn it is

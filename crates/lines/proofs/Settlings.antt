@@ -78,7 +78,7 @@ module _ (kind : Kind) (text : List ℕ) (a : Bool) (ae : a ≡ ends (drop 0 tex
     pub is-more : b ≡ false → false ≡ isKind kind (firstField text)
     is-more u = kind-far kind (firstField text) (two-bytes text (sym ae ∙ t) (sym be ∙ u))
 
-pub is-short : (kind : Kind) (f : List ℕ) → isKind kind f ≡ true → length f ≡ 1
+is-short : (kind : Kind) (f : List ℕ) → isKind kind f ≡ true → length f ≡ 1
 unfolding isKind
 is-short kind [] e = absurd-by (cc)
 is-short kind (c ∷ []) e = refl
@@ -136,14 +136,14 @@ unfolding judge
 judge-after st sp low high a b (Said n) go = by-test (fits sp low high n) (λ t. rw t) (λ t. rw t)
 judge-after st sp low high a b Wrong go = refl
 
-pub here-more : (text : List ℕ) (at k next : ℕ) → Here text at k → k < length (laterFields text) → next ≡ nextAt text at → Here text next (k + 1)
+here-more : (text : List ℕ) (at k next : ℕ) → Here text at k → k < length (laterFields text) → next ≡ nextAt text at → Here text next (k + 1)
 here-more text at k next h l e m =
     let t : fieldsOf (drop at text) ≡ drop (suc k) (fieldsOf text) = h l in
     let q : suc k + 1 < length (fieldsOf text) = omega arith in
     let j : suc k + 1 ≡ suc (k + 1) = omega arith in
     rw e (cursor-more text at (suc k) t q ∙ rw j)
 
-pub here-field : (text : List ℕ) (at k : ℕ) → Here text at k → k < length (laterFields text) → fieldAt text at ≡ getD (laterFields text) k []
+here-field : (text : List ℕ) (at k : ℕ) → Here text at k → k < length (laterFields text) → fieldAt text at ≡ getD (laterFields text) k []
 here-field text at k h l = cursor-field text at (suc k) (h l)
 
 module _ (st : Settling) (text : List ℕ) (at k i : ℕ) (s : Group) (turn : ℕ) (l : Limit) (g : Field) (se : s ≡ anyGroup) (te : turn ≡ turnOf st)

@@ -86,7 +86,7 @@ read-join S us xs (f ∷ fs) gs e = go (readBy (S us) f) refl e (λ n d. read-jo
     go Form p d ih = absurd-by (cc)
     go Range p d ih = absurd-by (cc)
 
-pub spelled-length : (S : List ℕ → Limit) (us ws : List ℕ) → length (spelledAll S us ws) ≡ length ws
+spelled-length : (S : List ℕ → Limit) (us ws : List ℕ) → length (spelledAll S us ws) ≡ length ws
 unfolding spelledAll
 spelled-length S us [] = refl
 spelled-length S us (n ∷ ws) = ap suc (spelled-length S (us ++ (n ∷ [])) ws)
@@ -205,7 +205,7 @@ fit-all S us (n ∷ ws) h =
     (fit-all S (us ++ (n ∷ [])) ws (λ i l. rw (append-assoc us (n ∷ []) (take i ws)) (h (suc i) (omega arith))))
 
 -- the label is asked for only where it stands before
-pub label-late : (k : Kind) (s : Group) (i a b : ℕ) → i ≤ 1 → eqb (letterOf k) 75 ≡ false → limitOf k i s a ≡ limitOf k i s b
+label-late : (k : Kind) (s : Group) (i a b : ℕ) → i ≤ 1 → eqb (letterOf k) 75 ≡ false → limitOf k i s a ≡ limitOf k i s b
 unfolding quantityAt limitFor
 label-late Reading s zero a b h e = refl
 label-late Reading s (suc zero) a b h e = refl

@@ -84,7 +84,7 @@ reply-heads Sizes s e = absurd-by (cc)
 reply-heads Filter s e = absurd-by (cc)
 reply-heads Run s e = absurd-by (cc)
 
-pub count-head : (k : Kind) (s : Group) (v : List ℕ) → countOf k s (getD (take (countOf k s 0) v) 2 0) ≡ countOf k s (getD v 2 0)
+count-head : (k : Kind) (s : Group) (v : List ℕ) → countOf k s (getD (take (countOf k s 0) v) 2 0) ≡ countOf k s (getD v 2 0)
 count-head k s v =
     by-test (eqb (letterOf k) 82)
     (λ t. let h = reply-heads k s t in let l : 2 < countOf k s 0 = omega arith in rw (getD-take (countOf k s 0) v 2 0 l))

@@ -81,7 +81,7 @@ module _ (kind : Kind) (s : Group) (input v : List ℕ) (k at : ℕ) (w : Trod k
       read-join (limitAfter kind s) [] (take k v) (w .texts) (spelled (l .spelling) n ∷ []) (w .got)
       ∙ rw (← limit-is, field-read (l .spelling) (l .low) (l .high) 0 n (here .inside))
 
-  pub trod-more : Trod kind s input (set v k n) (k + 1) next
+  trod-more : Trod kind s input (set v k n) (k + 1) next
   unfolding tabbed
   trod-more =
       let c = w .long in
@@ -98,7 +98,7 @@ module _ (kind : Kind) (s : Group) (input v : List ℕ) (k at : ℕ) (w : Trod k
       }
 
 -- R's count stays what its mask said
-pub count-kept : (kind : Kind) (s : Group) (v w : List ℕ) → ((i : ℕ) → i < countOf kind s 0 → getD w i 0 ≡ getD v i 0) → countOf kind s (getD v 2 0) ≡ countOf kind s (getD w 2 0)
+count-kept : (kind : Kind) (s : Group) (v w : List ℕ) → ((i : ℕ) → i < countOf kind s 0 → getD w i 0 ≡ getD v i 0) → countOf kind s (getD v 2 0) ≡ countOf kind s (getD w 2 0)
 count-kept kind s v w same =
     by-test (eqb (letterOf kind) 82)
     (λ t. let h = reply-heads kind s t in ap (countOf kind s) (sym (same 2 (omega arith))))
@@ -163,7 +163,7 @@ pub record Treading (kind : Kind) (s : Group) (input v₀ : List ℕ) (from to :
   pub trod : Trod kind s input v k at
   pub kept : (i : ℕ) → i < from → getD v i 0 ≡ getD v₀ i 0
 
-abbrev pub Came : Kind → Group → List ℕ → List ℕ → ℕ → ℕ → List ℕ → Bool → ℕ → Type 0
+abbrev Came : Kind → Group → List ℕ → List ℕ → ℕ → ℕ → List ℕ → Bool → ℕ → Type 0
 Came kind s input v₀ from to v good at = (good ≡ true → Trod kind s input v to at) × ((i : ℕ) → i < from → getD v i 0 ≡ getD v₀ i 0)
 
 module _ (kind : Kind) (s : Group) (input v₀ : List ℕ) (from to : ℕ) (v : List ℕ) (at k : ℕ) (w : Treading kind s input v₀ from to v at k) where

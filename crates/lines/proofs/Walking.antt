@@ -31,7 +31,7 @@ unfolding judge
 judge-any sp low high a b (Said n) go = by-test (fits sp low high n) (λ t. rw t) (λ t. rw t)
 judge-any sp low high a b Wrong go = refl
 
-pub read-any : (sp : Spelling) (low high a b : ℕ) (cs : List ℕ) (go : ℕ → Got) → onward (readField sp low high a cs) go ≡ onward (readField sp low high b cs) go
+read-any : (sp : Spelling) (low high a b : ℕ) (cs : List ℕ) (go : ℕ → Got) → onward (readField sp low high a cs) go ≡ onward (readField sp low high b cs) go
 unfolding readField
 read-any sp low high a b cs go = judge-any sp low high a b (saidBy sp cs) go
 

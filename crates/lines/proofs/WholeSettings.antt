@@ -15,7 +15,8 @@ use Rattle.units.specs.Pick.{pick}
 use Rattle.units.specs.Settings.{groupFits, placeFits, placeAt, runsFit, numbersFit}
 use Rattle.units.specs.Within.{within}
 use Rattle.units.proofs.Every.{and-left, and-right, every-at, every-all}
-use Rattle.units.proofs.InRange.{group-made, numbers-parts, numbers-from}
+use Rattle.units.specs.InRange.{NumbersInRange}
+use Rattle.units.proofs.InRange.{group-made, numbers-from, numbers-range}
 use Rattle.message.specs.declared.certificate.Certificate.{Certificate}
 use Rattle.message.specs.declared.settings.Settings.{Settings}
 use Rattle.message.specs.Settings.{bytePlace, byteAt, certificateFits, noCertificate, certificateAt, settingsFit}
@@ -123,19 +124,22 @@ bytes-again cs e =
     let a : i < length cs = let z = length-take (length cs) (column (λ i. getD cs i 0) 16) in omega arith in
     getD-take (length cs) (column (λ i. getD cs i 0) 16) i 0 a ∙ getD-column (λ i. getD cs i 0) 0 16 i (omega arith))
 
--- A PLACE OF A TABLE, after it was set
-set-place : {A : Type 0} (xs : List A) (i j : ℕ) (y d : A) (P : Bool → A → Type 0) → length xs ≡ 16 → i < 16 → P true y → ((k : ℕ) → k < 16 → P (ltb k i) (getD xs k d)) → j < 16 → P (ltb j (i + 1)) (getD (set xs i y) j d)
+-- A PLACE OF A TABLE, after place i was set: another place is as it was, on its side of i
+beside : {P : Type 0} (i j : ℕ) → ((j ≡ i → ⊥) → ltb j (i + 1) ≡ ltb j i → P) → (j ≡ i → ltb j (i + 1) ≡ true → P) → P
+beside i j f g =
+    by-lt j i (λ a. f (λ e. absurd (omega arith)) (lt-ltb j (i + 1) (omega arith) ∙ sym (lt-ltb j i a)))
+    (λ a. by-lt i j (λ c. f (λ e. absurd (omega arith)) (le-ltb j (i + 1) (omega arith) ∙ sym (le-ltb j i a))) (λ c. let e : j ≡ i = omega arith in g e (lt-ltb j (i + 1) (omega arith))))
+
+set-place : {A : Type 0} (xs : List A) (i j : ℕ) (y d : A) (P : ℕ → Bool → A → Type 0) → length xs ≡ 16 → i < 16 → P i true y → ((k : ℕ) → k < 16 → P k (ltb k i) (getD xs k d)) → j < 16
+    → P j (ltb j (i + 1)) (getD (set xs i y) j d)
 set-place xs i j y d P l h p q b =
-    by-lt j i (λ a. rw (lt-ltb j (i + 1) (omega arith), getD-set-other xs i j y d (λ e. absurd (omega arith))) (rw (lt-ltb j i a) at (q j b)))
-    (λ a. by-lt i j (λ c. rw (le-ltb j (i + 1) (omega arith), getD-set-other xs i j y d (λ e. absurd (omega arith))) (rw (le-ltb j i a) at (q j b)))
-    (λ c. let e : j ≡ i = omega arith in rw (lt-ltb j (i + 1) (omega arith), e, getD-set-same xs i y d (omega arith)) p))
+    beside i j (λ n e. rw (e, getD-set-other xs i j y d n) (q j b)) (λ z e. rw (e, z, getD-set-same xs i y d (omega arith)) p)
 
 set-two : (xs ws : List ℕ) (i j y z : ℕ) (P : Bool → ℕ → ℕ → Type 0) → length xs ≡ 16 → length ws ≡ 16 → i < 16 → P true y z → ((k : ℕ) → k < 16 → P (ltb k i) (getD xs k 0) (getD ws k 0)) → j < 16
     → P (ltb j (i + 1)) (getD (set xs i y) j 0) (getD (set ws i z) j 0)
 set-two xs ws i j y z P l m h p q b =
-    by-lt j i (λ a. rw (lt-ltb j (i + 1) (omega arith), getD-set-other xs i j y 0 (λ e. absurd (omega arith)), getD-set-other ws i j z 0 (λ e. absurd (omega arith))) (rw (lt-ltb j i a) at (q j b)))
-    (λ a. by-lt i j (λ c. rw (le-ltb j (i + 1) (omega arith), getD-set-other xs i j y 0 (λ e. absurd (omega arith)), getD-set-other ws i j z 0 (λ e. absurd (omega arith))) (rw (le-ltb j i a) at (q j b)))
-    (λ c. let e : j ≡ i = omega arith in rw (lt-ltb j (i + 1) (omega arith), e, getD-set-same xs i y 0 (omega arith), getD-set-same ws i z 0 (omega arith)) p))
+    beside i j (λ n e. rw (e, getD-set-other xs i j y 0 n, getD-set-other ws i j z 0 n) (q j b))
+    (λ c e. rw (e, c, getD-set-same xs i y 0 (omega arith), getD-set-same ws i z 0 (omega arith)) p)
 
 -- WHAT IS ACCEPTED. After the lines us, i runs are in range, and us are the writer's lines
 pub record Reached (us : List (List ℕ)) (i : ℕ) (st : Settling) : Type 0 where
@@ -252,7 +256,7 @@ module _ (us : List (List ℕ)) (i : ℕ) (st : Settling) (r : Reached us i st) 
           noise = r .noise;
           first = r .first;
           places = λ j h. rw t (set-two (st .settings .numbers .factors) (st .settings .numbers .weights) i j (word (g .factor)) (word (g .weight)) (λ b u v. placeFits b u v ≡ true) (r .factors) (r .weights) (omega arith) place-new (r .places) h);
-          papers = λ j h. rw t (set-place (st .settings .certificates) i j (certificateOf (g .cs)) noCertificate (λ b c. certificateFits b c ≡ true) (r .certificates) (omega arith) (certificate-fits (g .cs) (g .fit .certificate)) (r .papers) h);
+          papers = λ j h. rw t (set-place (st .settings .certificates) i j (certificateOf (g .cs)) noCertificate (λ k b c. certificateFits b c ≡ true) (r .certificates) (omega arith) (certificate-fits (g .cs) (g .fit .certificate)) (r .papers) h);
           factors = length-set (st .settings .numbers .factors) (turnOf st) (word (g .factor)) ∙ r .factors;
           weights = length-set (st .settings .numbers .weights) (turnOf st) (word (g .weight)) ∙ r .weights;
           certificates = length-set (st .settings .certificates) (turnOf st) (certificateOf (g .cs)) ∙ r .certificates;
@@ -436,13 +440,10 @@ column-ahead f n = sym (is-column f [] n (ahead f 0 n) (ahead-length f 0 n) (λ 
 same-paper : (c : Certificate) (n : ℕ) (bs : List ℕ) → c .len ≡ n → c .bytes ≡ bs → c ≡ record { len = n; bytes = bs }
 same-paper c n bs p q = rw (← p, ← q)
 
-set-eq : {A : Type 0} (xs : List A) (f : ℕ → A) (blank d : A) (i j : ℕ) (y : A) → length xs ≡ 16 → i < 16 → y ≡ f i → ((k : ℕ) → k < 16 → getD xs k d ≡ pick (ltb k i) (f k) blank) → j < 16
-    → getD (set xs i y) j d ≡ pick (ltb j (i + 1)) (f j) blank
+-- what is no run is blank, so the runs are all there is
+chosen : {A : Type 0} (xs : List A) (d blank : A) (m j : ℕ) → (m ≤ j → getD xs j d ≡ blank) → pick (ltb j m) (getD xs j d) blank ≡ getD xs j d
 unfolding pick
-set-eq xs f blank d i j y l h e q b =
-    by-lt j i (λ a. rw (lt-ltb j (i + 1) (omega arith), getD-set-other xs i j y d (λ z. absurd (omega arith))) (rw (lt-ltb j i a) at (q j b)))
-    (λ a. by-lt i j (λ c. rw (le-ltb j (i + 1) (omega arith), getD-set-other xs i j y d (λ z. absurd (omega arith))) (rw (le-ltb j i a) at (q j b)))
-    (λ c. let z : j ≡ i = omega arith in rw (lt-ltb j (i + 1) (omega arith), z, getD-set-same xs i y d (omega arith)) e))
+chosen xs d blank m j f = by-lt j m (λ a. rw (lt-ltb j m a)) (λ a. rw (le-ltb j m a) (sym (f a)))
 
 same-settings : (a b : Settings) → a .numbers .group ≡ b .numbers .group → a .numbers .q ≡ b .numbers .q → a .numbers .r ≡ b .numbers .r → a .numbers .p ≡ b .numbers .p
     → a .numbers .factors ≡ b .numbers .factors → a .numbers .weights ≡ b .numbers .weights → a .certificates ≡ b .certificates → a ≡ b
@@ -464,11 +465,8 @@ module _ (s : Settings) (fits : settingsFit s ≡ true) where
       let C = eqb (length (s .certificates)) 16 in
       (eqb-true (length (s .numbers .factors)) 16 (and-left F W (and-left (F && W) C l)), eqb-true (length (s .numbers .weights)) 16 (and-right F W (and-left (F && W) C l)), eqb-true (length (s .certificates)) 16 (and-right (F && W) C l))
 
-  noise-in : ((within 1 noiseTop (s .numbers .q) && within 1 noiseTop (s .numbers .r)) ≡ true) × (within 1 firstTop (s .numbers .p) ≡ true)
-  noise-in = let k = numbers-parts (s .numbers) (settings-fit s fits .numbers) in (k .1, k .2)
-
-  place : (j : ℕ) → j < 16 → placeFits (ltb j (s .numbers .group .m)) (getD (s .numbers .factors) j 0) (getD (s .numbers .weights) j 0) ≡ true
-  place j h = numbers-parts (s .numbers) (settings-fit s fits .numbers) .3 j h
+  range : NumbersInRange (s .numbers)
+  range = numbers-range (s .numbers) (settings-fit s fits .numbers)
 
   paper : (j : ℕ) → j < 16 → certificateFits (ltb j (s .numbers .group .m)) (getD (s .certificates) j noCertificate) ≡ true
   paper j h = every-at (certificateAt s) 16 j (settings-fit s fits .certificates) h
@@ -501,32 +499,13 @@ module _ (s : Settings) (fits : settingsFit s ≡ true) where
       (λ j h. let l : j < 16 = omega arith in eqb-true (getD (c .bytes) j 0) 0 (rw (le-ltb j (c .len) (omega arith)) at (every-at (byteAt c) 16 j (and-right (L && B) (every (byteAt c) 16) e) l)) ∙ sym (getD-replicate {A = ℕ} 16 j 0 0 l)) in
       same-paper c 0 (replicate 16 0) z b
 
-  -- what is no run is blank
-  chosen-factor : (j : ℕ) → j < 16 → pick (ltb j (s .numbers .group .m)) (getD (s .numbers .factors) j 0) 0 ≡ getD (s .numbers .factors) j 0
-  unfolding pick
-  chosen-factor j l =
-      by-lt j (s .numbers .group .m) (λ a. rw (lt-ltb j (s .numbers .group .m) a))
-      (λ a. rw (le-ltb j (s .numbers .group .m) a) (let e = rw (le-ltb j (s .numbers .group .m) a) at (place j l) in sym (eqb-true (getD (s .numbers .factors) j 0) 0 (and-left (eqb (getD (s .numbers .factors) j 0) 0) (eqb (getD (s .numbers .weights) j 0) 0) e))))
-
-  chosen-weight : (j : ℕ) → j < 16 → pick (ltb j (s .numbers .group .m)) (getD (s .numbers .weights) j 0) 0 ≡ getD (s .numbers .weights) j 0
-  unfolding pick
-  chosen-weight j l =
-      by-lt j (s .numbers .group .m) (λ a. rw (lt-ltb j (s .numbers .group .m) a))
-      (λ a. rw (le-ltb j (s .numbers .group .m) a) (let e = rw (le-ltb j (s .numbers .group .m) a) at (place j l) in sym (eqb-true (getD (s .numbers .weights) j 0) 0 (and-right (eqb (getD (s .numbers .factors) j 0) 0) (eqb (getD (s .numbers .weights) j 0) 0) e))))
-
-  chosen-paper : (j : ℕ) → j < 16 → pick (ltb j (s .numbers .group .m)) (getD (s .certificates) j noCertificate) noOne ≡ getD (s .certificates) j noCertificate
-  unfolding pick
-  chosen-paper j l =
-      by-lt j (s .numbers .group .m) (λ a. rw (lt-ltb j (s .numbers .group .m) a))
-      (λ a. rw (le-ltb j (s .numbers .group .m) a) (sym (blank-paper (getD (s .certificates) j noCertificate) (rw (le-ltb j (s .numbers .group .m) a) at (paper j l)))))
-
   -- all runs are read: the settings are whole
   part-done : (i : ℕ) (st : Settling) → Part i st → i ≡ s .numbers .group .m → st .settings ≡ s
   part-done i st x e =
       let n = st .settings .numbers in
-      let F : n .factors ≡ s .numbers .factors = ext-getD 0 (n .factors) (s .numbers .factors) (x .long .0 ∙ sym (lists .0)) (λ j h. let l : j < 16 = let a = x .long .0 in omega arith in x .factors j l ∙ rw e (chosen-factor j l)) in
-      let W : n .weights ≡ s .numbers .weights = ext-getD 0 (n .weights) (s .numbers .weights) (x .long .1 ∙ sym (lists .1)) (λ j h. let l : j < 16 = let a = x .long .1 in omega arith in x .weights j l ∙ rw e (chosen-weight j l)) in
-      let C : st .settings .certificates ≡ s .certificates = ext-getD noCertificate (st .settings .certificates) (s .certificates) (x .long .2 ∙ sym (lists .2)) (λ j h. let l : j < 16 = let a = x .long .2 in omega arith in x .papers j l ∙ rw e (chosen-paper j l)) in
+      let F : n .factors ≡ s .numbers .factors = ext-getD 0 (n .factors) (s .numbers .factors) (x .long .0 ∙ sym (lists .0)) (λ j h. let l : j < 16 = let a = x .long .0 in omega arith in x .factors j l ∙ rw e (chosen (s .numbers .factors) 0 0 (s .numbers .group .m) j (λ a. range .blank j a l .0))) in
+      let W : n .weights ≡ s .numbers .weights = ext-getD 0 (n .weights) (s .numbers .weights) (x .long .1 ∙ sym (lists .1)) (λ j h. let l : j < 16 = let a = x .long .1 in omega arith in x .weights j l ∙ rw e (chosen (s .numbers .weights) 0 0 (s .numbers .group .m) j (λ a. range .blank j a l .1))) in
+      let C : st .settings .certificates ≡ s .certificates = ext-getD noCertificate (st .settings .certificates) (s .certificates) (x .long .2 ∙ sym (lists .2)) (λ j h. let l : j < 16 = let a = x .long .2 in omega arith in x .papers j l ∙ rw e (chosen (s .certificates) noCertificate noOne (s .numbers .group .m) j (λ a. blank-paper _ (rw (le-ltb j (s .numbers .group .m) a) at (paper j l))))) in
       same-settings (st .settings) s (x .group) (x .q) (x .r) (x .p) F W C
 
   abbrev last : Settling
@@ -546,20 +525,11 @@ module _ (s : Settings) (fits : settingsFit s ≡ true) where
     paper-in : certificateFits true (getD (s .certificates) i noCertificate) ≡ true
     paper-in = rw (lt-ltb i (s .numbers .group .m) below) at (paper i small)
 
-    place-in : (within factorLow factorTop (getD (s .numbers .factors) i 0) && within 1 weightTop (getD (s .numbers .weights) i 0)) ≡ true
-    place-in = rw (lt-ltb i (s .numbers .group .m) below) at (place i small)
-
     factor-range : (factorLow ≤ getD (s .numbers .factors) i 0) × (getD (s .numbers .factors) i 0 ≤ factorTop)
-    factor-range =
-        let n = getD (s .numbers .factors) i 0 in
-        let e = and-left (within factorLow factorTop n) (within 1 weightTop (getD (s .numbers .weights) i 0)) place-in in
-        (leb-true factorLow n (and-left (leb factorLow n) (leb n factorTop) e), leb-true n factorTop (and-right (leb factorLow n) (leb n factorTop) e))
+    factor-range = range .factor i below
 
     weight-range : (1 ≤ getD (s .numbers .weights) i 0) × (getD (s .numbers .weights) i 0 ≤ weightTop)
-    weight-range =
-        let n = getD (s .numbers .weights) i 0 in
-        let e = and-right (within factorLow factorTop (getD (s .numbers .factors) i 0)) (within 1 weightTop n) place-in in
-        (leb-true 1 n (and-left (leb 1 n) (leb n weightTop) e), leb-true n weightTop (and-right (leb 1 n) (leb n weightTop) e))
+    weight-range = range .weight i below
 
     fitting : Fitting (turnOf st) (bytesOf (getD (s .certificates) i noCertificate)) (getD (s .numbers .factors) i 0) (getD (s .numbers .weights) i 0)
     unfolding limitFor quantityAt
@@ -593,6 +563,7 @@ module _ (s : Settings) (fits : settingsFit s ≡ true) where
         ∙ rw (x .group, ← l))
 
     part-more : Part (i + 1) after
+    unfolding pick
     part-more =
         let t = turn-at in
         let h = small in
@@ -605,9 +576,9 @@ module _ (s : Settings) (fits : settingsFit s ≡ true) where
           q = x .q;
           r = x .r;
           p = x .p;
-          factors = λ j k. rw t (set-eq (st .settings .numbers .factors) (λ n. getD (s .numbers .factors) n 0) 0 0 i j _ (x .long .0) h (word-is (getD (s .numbers .factors) i 0) (omega arith)) (x .factors) k);
-          weights = λ j k. rw t (set-eq (st .settings .numbers .weights) (λ n. getD (s .numbers .weights) n 0) 0 0 i j _ (x .long .1) h (word-is (getD (s .numbers .weights) i 0) (omega arith)) (x .weights) k);
-          papers = λ j k. rw t (set-eq (st .settings .certificates) (λ n. getD (s .certificates) n noCertificate) noOne noCertificate i j _ (x .long .2) h (certificate-again (getD (s .certificates) i noCertificate) paper-in) (x .papers) k);
+          factors = λ j k. rw t (set-place (st .settings .numbers .factors) i j _ 0 (λ n b x. x ≡ pick b (getD (s .numbers .factors) n 0) 0) (x .long .0) h (word-is (getD (s .numbers .factors) i 0) (omega arith)) (x .factors) k);
+          weights = λ j k. rw t (set-place (st .settings .numbers .weights) i j _ 0 (λ n b x. x ≡ pick b (getD (s .numbers .weights) n 0) 0) (x .long .1) h (word-is (getD (s .numbers .weights) i 0) (omega arith)) (x .weights) k);
+          papers = λ j k. rw t (set-place (st .settings .certificates) i j _ noCertificate (λ n b x. x ≡ pick b (getD (s .certificates) n noCertificate) noOne) (x .long .2) h (certificate-again (getD (s .certificates) i noCertificate) paper-in) (x .papers) k);
           long = (length-set (st .settings .numbers .factors) (turnOf st) _ ∙ x .long .0, length-set (st .settings .numbers .weights) (turnOf st) _ ∙ x .long .1, length-set (st .settings .certificates) (turnOf st) _ ∙ x .long .2);
         }
 
@@ -642,30 +613,19 @@ module _ (s : Settings) (fits : settingsFit s ≡ true) where
             (range-fits Decimal 1 runsTop (s .numbers .group .m) (record { least = b .0; most = b .1; can = omega arith })));
       }
 
-  ranges : ((1 ≤ s .numbers .q) × (s .numbers .q ≤ noiseTop)) × ((1 ≤ s .numbers .r) × (s .numbers .r ≤ noiseTop)) × ((1 ≤ s .numbers .p) × (s .numbers .p ≤ firstTop))
-  ranges =
-      let n = s .numbers in
-      let e = noise-in in
-      let a = and-left (within 1 noiseTop (n .q)) (within 1 noiseTop (n .r)) (e .0) in
-      let b = and-right (within 1 noiseTop (n .q)) (within 1 noiseTop (n .r)) (e .0) in (
-        (leb-true 1 (n .q) (and-left (leb 1 (n .q)) (leb (n .q) noiseTop) a), leb-true (n .q) noiseTop (and-right (leb 1 (n .q)) (leb (n .q) noiseTop) a)),
-        (leb-true 1 (n .r) (and-left (leb 1 (n .r)) (leb (n .r) noiseTop) b), leb-true (n .r) noiseTop (and-right (leb 1 (n .r)) (leb (n .r) noiseTop) b)),
-        (leb-true 1 (n .p) (and-left (leb 1 (n .p)) (leb (n .p) firstTop) (e .1)), leb-true (n .p) firstTop (and-right (leb 1 (n .p)) (leb (n .p) firstTop) (e .1))),
-      )
-
   filter-in : Fit Filter anyGroup (s .numbers .q ∷ s .numbers .r ∷ s .numbers .p ∷ [])
   unfolding countOf quantityAt limitFor
   filter-in =
       let n = s .numbers in
-      let a = ranges in
+      let a = range in
       let vs = n .q ∷ n .r ∷ n .p ∷ [] in
       record {
         counted = refl;
         inside = fits-all Filter anyGroup vs refl
             (below-three (λ i. fitsBy (limitOf Filter i anyGroup (n .r)) (getD vs i 0) ≡ true)
-            (range-fits Decimal 1 noiseTop (n .q) (record { least = a .0 .0; most = a .0 .1; can = let z = a .0 .1 in omega arith }))
-            (range-fits Decimal 1 noiseTop (n .r) (record { least = a .1 .0; most = a .1 .1; can = let z = a .1 .1 in omega arith }))
-            (range-fits Decimal 1 firstTop (n .p) (record { least = a .2 .0; most = a .2 .1; can = let z = a .2 .1 in omega arith })));
+            (range-fits Decimal 1 noiseTop (n .q) (record { least = a .q .0; most = a .q .1; can = let z = a .q .1 in omega arith }))
+            (range-fits Decimal 1 noiseTop (n .r) (record { least = a .r .0; most = a .r .1; can = let z = a .r .1 in omega arith }))
+            (range-fits Decimal 1 firstTop (n .p) (record { least = a .p .0; most = a .p .1; can = let z = a .p .1 in omega arith })));
       }
 
   abbrev sizes : List ℕ
@@ -677,14 +637,14 @@ module _ (s : Settings) (fits : settingsFit s ≡ true) where
   part-first : Part 0 (after-filter sizes noises)
   unfolding started pick
   part-first =
-      let a = ranges in
+      let a = range in
       record {
         line = refl;
         few = omega arith;
         group = refl;
-        q = word-is (s .numbers .q) (let z = a .0 .1 in omega arith);
-        r = word-is (s .numbers .r) (let z = a .1 .1 in omega arith);
-        p = word-is (s .numbers .p) (let z = a .2 .1 in omega arith);
+        q = word-is (s .numbers .q) (let z = a .q .1 in omega arith);
+        r = word-is (s .numbers .r) (let z = a .r .1 in omega arith);
+        p = word-is (s .numbers .p) (let z = a .p .1 in omega arith);
         factors = λ j h. rw (le-ltb j 0 (omega arith)) (getD-replicate {A = ℕ} 16 j 0 0 h);
         weights = λ j h. rw (le-ltb j 0 (omega arith)) (getD-replicate {A = ℕ} 16 j 0 0 h);
         papers = λ j h. rw (le-ltb j 0 (omega arith)) (getD-replicate 16 j noOne noCertificate h);

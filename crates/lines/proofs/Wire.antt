@@ -167,7 +167,7 @@ line-short k vs h =
     let a = texts-short k vs (length vs) in
     let b = length-append (tabbed (textsTo k vs (length vs))) (10 ∷ []) in omega arith
 
-pub count-small : (k : Kind) (s : Group) (mask : ℕ) → countOf k s mask ≤ 34
+count-small : (k : Kind) (s : Group) (mask : ℕ) → countOf k s mask ≤ 34
 unfolding countOf
 count-small Reading s mask = omega arith
 count-small Query s mask = omega arith
@@ -195,7 +195,7 @@ module _ (k : Kind) (vs : List ℕ) where
   pub ended-line : ended (lineOf k vs) ≡ true
   ended-line = eq-eqb (length (until 10 (lineOf k vs)) + 1) (length (lineOf k vs)) (rw feed-at (sym (ap length (line-ends k vs .0) ∙ length-append (textOf k vs) (10 ∷ []))))
 
-  pub text-fields : fieldsOf (textOf k vs) ≡ (letterOf k ∷ []) ∷ textsTo k vs (length vs)
+  text-fields : fieldsOf (textOf k vs) ≡ (letterOf k ∷ []) ∷ textsTo k vs (length vs)
   text-fields = fields-back (letterOf k ∷ []) (textsTo k vs (length vs)) (letter-lacks 9 k (lit< tt)) (texts-lack 9 k vs (length vs) (lit< tt))
 
   pub first-is-letter : firstField (textOf k vs) ≡ letterOf k ∷ []

@@ -29,9 +29,7 @@ returns-13 c =
 
 pub kind-of-spec : {M : Type 1} → statement M
 unfolding kindOf pick
-kind-of-spec =
-    tie.close
-    (tie.spec (λ c. along kindOf (c .match .keys1) refl) (λ c. along kindOf (c .match .keys2) refl) (λ c. along kindOf (c .match .keys3) refl)
-    (λ c. along kindOf (c .match .keys4) refl) (λ c. along kindOf (c .match .keys5) refl) (λ c. along kindOf (c .match .keys6) refl)
-    (λ c. along kindOf (c .match .keys7) refl) (λ c. along kindOf (c .match .keys8) refl) (λ c. along kindOf (c .match .keys9) refl)
-    (λ c. along kindOf (c .match .keys10) refl) (λ c. along kindOf (c .match .keys11) refl) (λ c. along kindOf (c .match .keys12) refl) returns-13)
+kind-of-spec = tie.close (tie.spec (λ c. along kindOf (c .match .keys1) refl) (λ c. along kindOf (c .match .keys2) refl) (λ c. along kindOf (c .match .keys3) refl)
+    (λ c. along kindOf (c .match .keys4) refl) (λ c. along kindOf (c .match .keys5) refl) (λ c. along kindOf (c .match .keys6) refl) (λ c. along kindOf (c .match .keys7) refl)
+    (λ c. along kindOf (c .match .keys8) refl) (λ c. along kindOf (c .match .keys9) refl) (λ c. along kindOf (c .match .keys10) refl) (λ c. along kindOf (c .match .keys11) refl)
+    (λ c. along kindOf (c .match .keys12) refl) returns-13)

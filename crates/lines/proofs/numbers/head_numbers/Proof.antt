@@ -8,14 +8,11 @@ use Rattle.lines.proofs.numbers.head_numbers.Tie as tie
 
 pub head-numbers-spec : {M : Type 1} → statement M
 unfolding headValues
-head-numbers-spec =
-    tie.close
-    (tie.spec (search needs) (search needs) (search needs) (search needs) (search needs) (search needs) (search needs) (search needs) (search needs)
-    (search needs) (search needs) (search needs) (search needs) (search needs) (search needs) (search needs) (search needs) (search needs)
-    (search needs) (search needs) (search needs) (search needs) (search needs) (search needs) (search needs) (search needs) (search needs)
-    (search needs) (search needs) (search needs) (search needs) (search needs) (search needs) (search needs) (search needs) (search needs)
-    (search needs) (search needs) (search needs) (search needs) (search needs) (search needs) (search needs) (search needs) (search needs)
-    (search needs) (λ c. numbers-in 3 _ (c .before .before .before .head .given .1) (c .four .ensures) refl refl)
+head-numbers-spec = tie.close (tie.spec (search needs) (search needs) (search needs) (search needs) (search needs) (search needs) (search needs) (search needs) (search needs) (search needs)
+    (search needs) (search needs) (search needs) (search needs) (search needs) (search needs) (search needs) (search needs) (search needs) (search needs) (search needs) (search needs)
+    (search needs) (search needs) (search needs) (search needs) (search needs) (search needs) (search needs) (search needs) (search needs) (search needs) (search needs) (search needs)
+    (search needs) (search needs) (search needs) (search needs) (search needs) (search needs) (search needs) (search needs) (search needs) (search needs) (search needs) (search needs)
+    (λ c. numbers-in 3 _ (c .before .before .before .head .given .1) (c .four .ensures) refl refl)
     (λ c. numbers-in 3 _ (c .before .before .before .head2 .given .1) (c .four2 .ensures) refl refl)
     (λ c. numbers-in 3 _ (c .before .before .before .head3 .given .1) (c .four3 .ensures) refl refl)
     (λ c. numbers-in 2 _ (c .before .before .before .head4 .given .1) (c .four4 .ensures) refl refl)

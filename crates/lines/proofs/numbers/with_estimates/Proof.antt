@@ -23,8 +23,6 @@ returns : tie.Need-returns Inv-loop μ-loop
 returns c = let l = c .before .loop in let a = c .before .before .before .args in let q : l .i ≡ a .m = omega (arith, l .inv .0, c .loop-test .left) in rw (← q) (l .inv .1, l .inv .2 .same, l .inv .2 .long)
 
 pub with-estimates-spec : {M : Type 1} → statement M
-with-estimates-spec =
-    tie.close
-    (tie.spec Inv-loop μ-loop (λ c. let z = c .before in (omega arith, omega arith, add-start _ _ _ _ (z .pre .2) refl)) (λ c. omega arith)
-    (λ c. omega arith) (search needs) (λ c. omega arith) (λ c. omega arith) (search needs) (λ c. omega arith) (λ c. omega arith) (λ c. omega arith)
-    (λ c. omega arith) (λ c. omega arith) (λ c. omega arith) loop-again returns)
+with-estimates-spec = tie.close (tie.spec Inv-loop μ-loop (λ c. let z = c .before in (omega arith, omega arith, add-start _ _ _ _ (z .pre .2) refl)) (λ c. omega arith) (λ c. omega arith)
+    (search needs) (λ c. omega arith) (λ c. omega arith) (search needs) (λ c. omega arith) (λ c. omega arith) (λ c. omega arith) (λ c. omega arith) (λ c. omega arith) (λ c. omega arith)
+    loop-again returns)

@@ -31,8 +31,5 @@ returns-2 : tie.Need-returns-2 Inv-loop μ-loop
 returns-2 c = let l = c .before .loop in let a = c .before .before .before .before .args in readings-all (a .mask) (a .t3) _ (l .v) (l .at) (l .i) (l .inv .2) (omega arith) (omega (arith, l .inv .0, c .loop-test .left))
 
 pub with-readings-spec : {M : Type 1} → statement M
-with-readings-spec =
-    tie.close
-    (tie.spec Inv-loop μ-loop returns (λ c. let z = c .before .before in (omega arith, omega arith, add-start _ _ _ _ (z .pre .1) refl))
-    (search needs) (λ c. omega arith) (λ c. omega arith) (search needs) (λ c. omega arith) (λ c. omega arith) (λ c. omega arith) (λ c. omega arith)
-    (λ c. omega arith) loop-again returns-2)
+with-readings-spec = tie.close (tie.spec Inv-loop μ-loop returns (λ c. let z = c .before .before in (omega arith, omega arith, add-start _ _ _ _ (z .pre .1) refl)) (search needs)
+    (λ c. omega arith) (λ c. omega arith) (search needs) (λ c. omega arith) (λ c. omega arith) (λ c. omega arith) (λ c. omega arith) (λ c. omega arith) loop-again returns-2)

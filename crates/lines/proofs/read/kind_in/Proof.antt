@@ -14,7 +14,5 @@ returns-3 : tie.Need-returns-3
 returns-3 c = kind-more _ _ (c .before .before .before .ends-at .ensures) _ (c .before .ends-at2 .ensures) (c .before .before .if1 .left) (c .if2 .left)
 
 pub kind-in-spec : {M : Type 1} → statement M
-kind-in-spec =
-    tie.close
-    (tie.spec (search needs) (λ c. kind-none _ _ (c .before .ends-at .ensures) (c .if1 .taken)) (search needs) shared-slice-read-kind-of
-    (search needs) returns-2 returns-3)
+kind-in-spec = tie.close (tie.spec (search needs) (λ c. kind-none _ _ (c .before .ends-at .ensures) (c .if1 .taken)) (search needs) shared-slice-read-kind-of (search needs) returns-2
+    returns-3)

@@ -26,9 +26,5 @@ returns-4 c =
     (c .before .before .before .scan .ensures) (c .before .before .if3 .left) (c .read-text .ensures)
 
 pub read-spec : {M : Type 1} → statement M
-read-spec =
-    tie.close
-    (tie.spec (search needs) (search needs) returns (search needs) returns-2 (search needs)
-    (λ c. omega (arith, scan-inside _ _ (c .scan .ensures), c .before .if2 .left)) (search needs) returns-3
-    (λ c. sym (length-take-le _ _ (scan-inside _ _ (c .before .before .scan .ensures)))) (λ c κs. text-tabs _ _ (c .before .before .scan .ensures))
-    returns-4)
+read-spec = tie.close (tie.spec (search needs) (search needs) returns (search needs) returns-2 (search needs) (λ c. omega (arith, scan-inside _ _ (c .scan .ensures), c .before .if2 .left))
+    (search needs) returns-3 (λ c. sym (length-take-le _ _ (scan-inside _ _ (c .before .before .scan .ensures)))) (λ c κs. text-tabs _ _ (c .before .before .scan .ensures)) returns-4)

@@ -19,8 +19,5 @@ read-straight-requires c κs = (
 )
 
 pub read-first-spec : {M : Type 1} → statement M
-read-first-spec =
-    tie.close
-    (tie.spec (λ c κs. search needs) (λ c κs. search needs) (λ c. search needs) (λ c κs. search needs) (λ c. search needs) (λ c. search needs)
-    read-reading-requires (λ c. search needs) (λ c κs. search needs) (λ c. search needs) read-straight-requires (λ c. search needs)
-    (λ c κs. search needs) (λ c. search needs) (λ c. search needs))
+read-first-spec = tie.close (tie.spec (λ c κs. search needs) (λ c κs. search needs) (λ c. search needs) (λ c κs. search needs) (λ c. search needs) (λ c. search needs) read-reading-requires
+    (λ c. search needs) (λ c κs. search needs) (λ c. search needs) read-straight-requires (λ c. search needs) (λ c κs. search needs) (λ c. search needs) (λ c. search needs))

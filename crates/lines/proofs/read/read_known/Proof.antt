@@ -13,7 +13,5 @@ returns-2 : tie.Need-returns-2
 returns-2 c = let a = c .before .before .before .before .before .before .before .args in known-refused (a .kind) (a .group) (a .text .now) _ _ (c .before .before .before .before .read-values .ensures) _ _ (c .before .before .why .given .1) (c .refused .ensures)
 
 pub read-known-spec : {M : Type 1} → statement M
-read-known-spec =
-    tie.close
-    (tie.spec (λ c κs. let s = c .before .before in (fields-are _ _ (s .pre .0), here-start _ (s .pre .1), none-read, refl)) (search needs)
-    (search needs) (search needs) (search needs) returns returns-2)
+read-known-spec = tie.close (tie.spec (λ c κs. let s = c .before .before in (fields-are _ _ (s .pre .0), here-start _ (s .pre .1), none-read, refl)) (search needs) (search needs)
+    (search needs) (search needs) returns returns-2)

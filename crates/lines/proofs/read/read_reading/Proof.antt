@@ -15,7 +15,5 @@ returns-3 c =
     (at-place (s .args .input .now) (n .reading-in .result .at) 10 _ (c .before .before .before .is-at .ensures) (c .before .before .if2 .left)) _ (c .message-of .ensures)
 
 pub read-reading-spec : {M : Type 1} → statement M
-read-reading-spec =
-    tie.close
-    (tie.spec (λ c κs. trod-start _ _ _ _ (c .before .before .pre .1) refl none-read) (λ c κs. search needs) (λ c. search needs)
-    (λ c κs. search needs) (λ c κs. search needs) (λ c. search needs) (λ c κs. search needs) returns-3)
+read-reading-spec = tie.close (tie.spec (λ c κs. trod-start _ _ _ _ (c .before .before .pre .1) refl none-read) (λ c κs. search needs) (λ c. search needs) (λ c κs. search needs)
+    (λ c κs. search needs) (λ c. search needs) (λ c κs. search needs) returns-3)

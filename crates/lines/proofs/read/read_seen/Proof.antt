@@ -36,7 +36,5 @@ returns-5 c =
     (let i = scan-inside _ _ (s .pre) in omega (arith, c .before .before .before .if3 .left)) (omega (arith, c .before .before .before .before .if2 .left, c .before .before .if4 .left)) (c .read-text .ensures)
 
 pub read-seen-spec : {M : Type 1} → statement M
-read-seen-spec =
-    tie.close
-    (tie.spec (search needs) (search needs) returns (search needs) returns-2 (search needs) returns-3 (search needs) returns-4
-    slice-aggregate-read-text (λ c κs. text-tabs _ _ (c .before .before .before .before .before .before .before .pre)) returns-5)
+read-seen-spec = tie.close (tie.spec (search needs) (search needs) returns (search needs) returns-2 (search needs) returns-3 (search needs) returns-4 slice-aggregate-read-text
+    (λ c κs. text-tabs _ _ (c .before .before .before .before .before .before .before .pre)) returns-5)

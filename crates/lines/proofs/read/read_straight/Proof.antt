@@ -14,7 +14,5 @@ returns-3 c =
     (at-place (s .args .input .now) (n .numbers-in .result .at) 10 _ (c .before .before .before .is-at .ensures) (c .before .before .if2 .left)) _ (c .message-of .ensures)
 
 pub read-straight-spec : {M : Type 1} → statement M
-read-straight-spec =
-    tie.close
-    (tie.spec (λ c κs. trod-start _ _ _ _ (c .before .before .pre .1) refl none-read) (λ c κs. search needs) (λ c. search needs)
-    (λ c κs. search needs) (λ c κs. search needs) (λ c. search needs) (λ c κs. search needs) returns-3)
+read-straight-spec = tie.close (tie.spec (λ c κs. trod-start _ _ _ _ (c .before .before .pre .1) refl none-read) (λ c κs. search needs) (λ c. search needs) (λ c κs. search needs)
+    (λ c κs. search needs) (λ c. search needs) (λ c κs. search needs) returns-3)

@@ -18,7 +18,5 @@ returns c =
     tab-put (a .buf .now) (a .at) (bytesOf (a .certificate)) h _ _ (p .0) (p .1)
 
 pub put-certificate-spec : {M : Type 1} → statement M
-put-certificate-spec =
-    tie.close
-    (tie.spec (search needs) (search needs) (search needs) (λ c. sym (length-take-le _ _ (omega (arith, c .before .before .before .before .pre))))
-    (search needs) (λ c. c .before .before .put-part .kept .0 ∙ simp length-set) returns)
+put-certificate-spec = tie.close (tie.spec (search needs) (search needs) (search needs) (λ c. sym (length-take-le _ _ (omega (arith, c .before .before .before .before .pre)))) (search needs)
+    (λ c. c .before .before .put-part .kept .0 ∙ simp length-set) returns)

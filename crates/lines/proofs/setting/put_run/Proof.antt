@@ -50,6 +50,4 @@ returns-2 c =
     (p .ensures) (p .kept .0) _ _ (q .ensures) (q .kept .0) refl
 
 pub put-run-spec : {M : Type 1} → statement M
-put-run-spec =
-    tie.close
-    (tie.spec (search needs) (search needs) returns (search needs) put-who-requires put-share-requires slice-write-buf-2 same-length returns-2)
+put-run-spec = tie.close (tie.spec (search needs) (search needs) returns (search needs) put-who-requires put-share-requires slice-write-buf-2 same-length returns-2)

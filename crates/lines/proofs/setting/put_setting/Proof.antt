@@ -53,8 +53,6 @@ returns-3 c =
     (c .before .before .before .before .before .before .before .turn-of .ensures) _ _ (a .buf .now) (c .before .before .put-run .ensures)
 
 pub put-setting-spec : {M : Type 1} → statement M
-put-setting-spec =
-    tie.close
-    (tie.spec (search needs) (search needs) (search needs) returns (search needs) (search needs) (search needs) (search needs) (search needs)
-    (search needs) returns-2 (search needs) mul-certificate element-copy-out-certificate mul-put-run element-copy-out-put-run mul-put-run-2
-    element-copy-out-put-run-2 put-run-requires (search needs) returns-3)
+put-setting-spec = tie.close (tie.spec (search needs) (search needs) (search needs) returns (search needs) (search needs) (search needs) (search needs) (search needs) (search needs)
+    returns-2 (search needs) mul-certificate element-copy-out-certificate mul-put-run element-copy-out-put-run mul-put-run-2 element-copy-out-put-run-2 put-run-requires (search needs)
+    returns-3)

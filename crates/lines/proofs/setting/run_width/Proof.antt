@@ -55,7 +55,4 @@ returns c =
     (omega (arith, c .before .before .width .ensures, c .before .width2 .ensures, c .width3 .ensures), omega (arith, c .before .before .width .ensures, c .before .width2 .ensures, c .width3 .ensures))
 
 pub run-width-spec : {M : Type 1} → statement M
-run-width-spec =
-    tie.close
-    (tie.spec (search needs) (search needs) (search needs) add-result add-result-2 add-result-3 add-result-4 add-result-5 add-result-6 add-result-7
-    returns)
+run-width-spec = tie.close (tie.spec (search needs) (search needs) (search needs) add-result add-result-2 add-result-3 add-result-4 add-result-5 add-result-6 add-result-7 returns)

@@ -15,7 +15,4 @@ returns-2 c =
     setting-put (a .settings) (a .k) _ (c .before .before .before .before .before .is-setting .ensures) (a .buf .now) (c .before .before .before .before .if1 .left) _ _ (c .before .before .put-setting .ensures)
 
 pub write-setting-spec : {M : Type 1} → statement M
-write-setting-spec =
-    tie.close
-    (tie.spec (search needs) returns (λ c κs. sym (c .before .before .is-setting .ensures) ∙ not-false _ (c .before .if1 .left)) (search needs)
-    returns-2)
+write-setting-spec = tie.close (tie.spec (search needs) returns (λ c κs. sym (c .before .before .is-setting .ensures) ∙ not-false _ (c .before .if1 .left)) (search needs) returns-2)

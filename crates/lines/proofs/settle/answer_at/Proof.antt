@@ -5,7 +5,5 @@ use Rattle.lines.proofs.settle.answer_at.Statement.{statement}
 use Rattle.lines.proofs.settle.answer_at.Tie as tie
 
 pub answer-at-spec : {M : Type 1} → statement M
-answer-at-spec =
-    tie.close
-    (tie.spec (λ c. answer-early _ _ (c .if1 .taken)) (search needs) (λ c. answer-whole _ _ (c .before .if1 .left) (c .if2 .taken))
+answer-at-spec = tie.close (tie.spec (λ c. answer-early _ _ (c .if1 .taken)) (search needs) (λ c. answer-whole _ _ (c .before .if1 .left) (c .if2 .taken))
     (λ c. answer-more _ _ (c .before .if1 .left) (c .if2 .left)))

@@ -26,7 +26,5 @@ returns c =
     (fill-done _ 0 0 (l .bytes) (l .i) (l .inv .2) (bytes-left (a .text .now) (a .from) (a .to) (z .pre .0) (z .pre .1) (l .i) (omega arith)))
 
 pub certificate-of-spec : {M : Type 1} → statement M
-certificate-of-spec =
-    tie.close
-    (tie.spec Inv-loop μ-loop (search needs) (λ c. (omega arith, refl, fill-start _ 0 0)) (λ c. omega arith) (λ c. omega arith) (λ c. omega arith)
+certificate-of-spec = tie.close (tie.spec Inv-loop μ-loop (search needs) (λ c. (omega arith, refl, fill-start _ 0 0)) (λ c. omega arith) (λ c. omega arith) (λ c. omega arith)
     (λ c. omega arith) (λ c. omega arith) loop-again returns)

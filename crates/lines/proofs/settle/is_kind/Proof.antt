@@ -17,7 +17,5 @@ returns-3 : tie.Need-returns-3
 returns-3 c = is-more (c .before .before .before .before .before .args .kind) _ _ (c .before .before .before .ends-at .ensures) _ (c .before .ends-at2 .ensures) (c .before .before .if1 .left) (c .if2 .left)
 
 pub is-kind-spec : {M : Type 1} → statement M
-is-kind-spec =
-    tie.close
-    (tie.spec (search needs) (λ c. is-none (c .before .before .before .args .kind) _ _ (c .before .ends-at .ensures) (c .if1 .taken)) (search needs)
+is-kind-spec = tie.close (tie.spec (search needs) (λ c. is-none (c .before .before .before .args .kind) _ _ (c .before .ends-at .ensures) (c .if1 .taken)) (search needs)
     shared-slice-read-result (search needs) returns-2 returns-3)

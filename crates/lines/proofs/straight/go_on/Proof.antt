@@ -51,7 +51,5 @@ returns-4 : tie.Need-returns-4 Inv-loop μ-loop
 returns-4 c = let h = c .before in let a = h .before .before .args in tread-end (a .kind) (a .group) (a .input .now) (a .v .now) (a .from) (a .to) (h .loop .v) (h .loop .at) (h .loop .k) (h .loop .inv) (c .loop-test .left)
 
 pub go-on-spec : {M : Type 1} → statement M
-go-on-spec =
-    tie.close
-    (tie.spec Inv-loop μ-loop loop-holds (search needs) returns (search needs) (search needs) add-read-here (search needs) (search needs) mul-v
-    element-write-v (search needs) returns-2 (search needs) returns-3 add-k loop-less loop-again returns-4)
+go-on-spec = tie.close (tie.spec Inv-loop μ-loop loop-holds (search needs) returns (search needs) (search needs) add-read-here (search needs) (search needs) mul-v element-write-v
+    (search needs) returns-2 (search needs) returns-3 add-k loop-less loop-again returns-4)

@@ -30,6 +30,4 @@ returns-3 c =
     (c .before .before .before .count-of2 .ensures .0) _ _ _ (c .go-on2 .ensures)
 
 pub numbers-in-spec : {M : Type 1} → statement M
-numbers-in-spec =
-    tie.close
-    (tie.spec (λ c κs. search needs) (λ c κs. search needs) returns (λ c. search needs) (λ c κs. search needs) returns-2 go-on-requires-2 returns-3)
+numbers-in-spec = tie.close (tie.spec (λ c κs. search needs) (λ c κs. search needs) returns (λ c. search needs) (λ c κs. search needs) returns-2 go-on-requires-2 returns-3)

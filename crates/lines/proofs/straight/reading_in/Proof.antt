@@ -19,9 +19,6 @@ returns-4 c =
     (c .before .before .before .after-tab3 .ensures) _ _ (c .before .third .given .1)
 
 pub reading-in-spec : {M : Type 1} → statement M
-reading-in-spec =
-    tie.close
-    (tie.spec (λ c κs. search needs) (λ c κs. reading-decimal _ _ _ _ (c .limit-at .ensures)) (λ c. search needs) (λ c. λ e. no-way e)
-    (λ c. search needs) (λ c κs. search needs) (λ c κs. reading-decimal _ _ _ _ (c .limit-at2 .ensures)) (λ c. search needs) (λ c. λ e. no-way e)
-    (λ c. search needs) (λ c κs. search needs) (λ c κs. reading-decimal _ _ _ _ (c .limit-at3 .ensures)) (λ c. search needs) (λ c. λ e. no-way e)
-    (λ c. search needs) returns-4)
+reading-in-spec = tie.close (tie.spec (λ c κs. search needs) (λ c κs. reading-decimal _ _ _ _ (c .limit-at .ensures)) (λ c. search needs) (λ c. λ e. no-way e) (λ c. search needs)
+    (λ c κs. search needs) (λ c κs. reading-decimal _ _ _ _ (c .limit-at2 .ensures)) (λ c. search needs) (λ c. λ e. no-way e) (λ c. search needs) (λ c κs. search needs)
+    (λ c κs. reading-decimal _ _ _ _ (c .limit-at3 .ensures)) (λ c. search needs) (λ c. λ e. no-way e) (λ c. search needs) returns-4)

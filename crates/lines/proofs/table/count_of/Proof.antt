@@ -23,14 +23,10 @@ returns-7 c = count-in _ _ (c .before .enum-told7 .given .1) (ap (λ (n : ℕ). 
 
 pub count-of-spec : {M : Type 1} → statement M
 unfolding countOf
-count-of-spec =
-    tie.close
-    (tie.spec (search needs) (search needs) (search needs) (search needs) (search needs) (search needs) (search needs) (search needs) (search needs)
-    (search needs) (search needs) (search needs) (search needs) (search needs) (search needs) (search needs) (search needs) (search needs)
-    (search needs) (search needs) (search needs) (search needs) (search needs) (λ c. count-in _ _ (c .enum-told .given .1) refl (lit≤ tt))
-    (λ c. count-in _ _ (c .enum-told2 .given .1) refl (lit≤ tt)) returns-3 (λ c. count-in _ _ (c .enum-told4 .given .1) refl (lit≤ tt)) returns-5
-    (λ c. count-in _ _ (c .enum-told6 .given .1) refl (lit≤ tt)) returns-7 (λ c. count-in _ _ (c .enum-told8 .given .1) refl (lit≤ tt))
-    (λ c. count-in _ _ (c .enum-told9 .given .1) refl (lit≤ tt)) (λ c. count-in _ _ (c .enum-told10 .given .1) refl (lit≤ tt))
-    (λ c. count-in _ _ (c .enum-told11 .given .1) refl (lit≤ tt)) (λ c. count-in _ _ (c .enum-told12 .given .1) refl (lit≤ tt))
-    (λ c. count-in _ _ (c .enum-told13 .given .1) refl (lit≤ tt)) (λ c. count-in _ _ (c .enum-told14 .given .1) refl (lit≤ tt))
-    (λ c. count-in _ _ (c .enum-told15 .given .1) refl (lit≤ tt)) (λ c. count-in _ _ (c .enum-told16 .given .1) refl (lit≤ tt)))
+count-of-spec = tie.close (tie.spec (search needs) (search needs) (search needs) (search needs) (search needs) (search needs) (search needs) (search needs) (search needs) (search needs)
+    (search needs) (search needs) (search needs) (search needs) (search needs) (search needs) (search needs) (search needs) (search needs) (search needs) (search needs) (search needs)
+    (search needs) (λ c. count-in _ _ (c .enum-told .given .1) refl (lit≤ tt)) (λ c. count-in _ _ (c .enum-told2 .given .1) refl (lit≤ tt)) returns-3
+    (λ c. count-in _ _ (c .enum-told4 .given .1) refl (lit≤ tt)) returns-5 (λ c. count-in _ _ (c .enum-told6 .given .1) refl (lit≤ tt)) returns-7
+    (λ c. count-in _ _ (c .enum-told8 .given .1) refl (lit≤ tt)) (λ c. count-in _ _ (c .enum-told9 .given .1) refl (lit≤ tt)) (λ c. count-in _ _ (c .enum-told10 .given .1) refl (lit≤ tt))
+    (λ c. count-in _ _ (c .enum-told11 .given .1) refl (lit≤ tt)) (λ c. count-in _ _ (c .enum-told12 .given .1) refl (lit≤ tt)) (λ c. count-in _ _ (c .enum-told13 .given .1) refl (lit≤ tt))
+    (λ c. count-in _ _ (c .enum-told14 .given .1) refl (lit≤ tt)) (λ c. count-in _ _ (c .enum-told15 .given .1) refl (lit≤ tt)) (λ c. count-in _ _ (c .enum-told16 .given .1) refl (lit≤ tt)))

@@ -18,18 +18,12 @@ returns-7 c = quantity-in _ (c .before .before .enum-told7 .given .1) (c .at-pla
 
 pub quantity-at-spec : {M : Type 1} → statement M
 unfolding quantityAt
-quantity-at-spec =
-    tie.close
-    (tie.spec (search needs) (search needs) (search needs) (search needs) (search needs) (search needs) (search needs) (search needs) (search needs)
-    (search needs) (search needs) (search needs) (search needs) (search needs) (search needs) (search needs) (search needs) (search needs)
-    (search needs) (search needs) (search needs) (search needs) (search needs) (search needs) (search needs) (search needs) (search needs)
-    (search needs) (search needs) (λ c. quantity-in _ (c .before .enum-told .given .1) (c .at-place .ensures))
-    (λ c. quantity-in _ (c .before .enum-told2 .given .1) (c .at-place2 .ensures))
-    (λ c. quantity-in _ (c .before .enum-told3 .given .1) (c .at-place3 .ensures))
-    (λ c. quantity-in _ (c .before .enum-told4 .given .1) (c .at-place4 .ensures)) returns-5
-    (λ c. quantity-in _ (c .before .enum-told6 .given .1) (c .at-place6 .ensures)) returns-7 (λ c. quantity-in _ (c .enum-told8 .given .1) refl)
-    (λ c. quantity-in _ (c .enum-told9 .given .1) refl) (λ c. quantity-in _ (c .enum-told10 .given .1) refl)
-    (λ c. quantity-in _ (c .enum-told11 .given .1) refl) (λ c. quantity-in _ (c .before .enum-told12 .given .1) (c .at-place8 .ensures))
-    (λ c. quantity-in _ (c .enum-told13 .given .1) refl) (λ c. quantity-in _ (c .before .enum-told14 .given .1) (c .at-place9 .ensures))
-    (λ c. quantity-in _ (c .before .enum-told15 .given .1) (c .at-place10 .ensures))
+quantity-at-spec = tie.close (tie.spec (search needs) (search needs) (search needs) (search needs) (search needs) (search needs) (search needs) (search needs) (search needs) (search needs)
+    (search needs) (search needs) (search needs) (search needs) (search needs) (search needs) (search needs) (search needs) (search needs) (search needs) (search needs) (search needs)
+    (search needs) (search needs) (search needs) (search needs) (search needs) (search needs) (search needs) (λ c. quantity-in _ (c .before .enum-told .given .1) (c .at-place .ensures))
+    (λ c. quantity-in _ (c .before .enum-told2 .given .1) (c .at-place2 .ensures)) (λ c. quantity-in _ (c .before .enum-told3 .given .1) (c .at-place3 .ensures))
+    (λ c. quantity-in _ (c .before .enum-told4 .given .1) (c .at-place4 .ensures)) returns-5 (λ c. quantity-in _ (c .before .enum-told6 .given .1) (c .at-place6 .ensures)) returns-7
+    (λ c. quantity-in _ (c .enum-told8 .given .1) refl) (λ c. quantity-in _ (c .enum-told9 .given .1) refl) (λ c. quantity-in _ (c .enum-told10 .given .1) refl)
+    (λ c. quantity-in _ (c .enum-told11 .given .1) refl) (λ c. quantity-in _ (c .before .enum-told12 .given .1) (c .at-place8 .ensures)) (λ c. quantity-in _ (c .enum-told13 .given .1) refl)
+    (λ c. quantity-in _ (c .before .enum-told14 .given .1) (c .at-place9 .ensures)) (λ c. quantity-in _ (c .before .enum-told15 .given .1) (c .at-place10 .ensures))
     (λ c. quantity-in _ (c .before .enum-told16 .given .1) (c .at-place11 .ensures)))

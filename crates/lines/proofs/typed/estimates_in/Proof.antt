@@ -27,8 +27,6 @@ returns : tie.Need-returns Inv-loop μ-loop
 returns c = let l = c .before .loop in let a = c .before .before .before .args in fill-done _ noEstimate blank (l .out) (l .i) (l .inv .2) (estimate-left (a .n) _ (l .i) (a .v .now) (l .inv .1) (c .loop-test .left))
 
 pub estimates-in-spec : {M : Type 1} → statement M
-estimates-in-spec =
-    tie.close
-    (tie.spec Inv-loop μ-loop (search needs) (λ c. (omega arith, c .runs-of .ensures, fill-start _ noEstimate blank)) (λ c. omega arith)
-    (λ c. omega arith) (λ c. omega arith) (λ c. omega arith) (λ c. omega arith) (λ c. omega arith) (λ c. omega arith) (λ c. omega arith)
-    (search needs) (λ c. omega arith) (λ c. omega arith) (λ c. omega arith) (λ c. omega arith) loop-again returns)
+estimates-in-spec = tie.close (tie.spec Inv-loop μ-loop (search needs) (λ c. (omega arith, c .runs-of .ensures, fill-start _ noEstimate blank)) (λ c. omega arith) (λ c. omega arith)
+    (λ c. omega arith) (λ c. omega arith) (λ c. omega arith) (λ c. omega arith) (λ c. omega arith) (λ c. omega arith) (search needs) (λ c. omega arith) (λ c. omega arith) (λ c. omega arith)
+    (λ c. omega arith) loop-again returns)

@@ -13,7 +13,5 @@ returns-2 c =
     (c .before .before .readings-in .ensures) (c .before .estimates-in .ensures) (c .targets-in .ensures)
 
 pub message-of-spec : {M : Type 1} → statement M
-message-of-spec =
-    tie.close
-    (tie.spec (search needs) (search needs) (search needs) (search needs) (search needs) (search needs) (search needs) returns (search needs)
-    (search needs) (search needs) returns-2)
+message-of-spec = tie.close (tie.spec (search needs) (search needs) (search needs) (search needs) (search needs) (search needs) (search needs) returns (search needs) (search needs)
+    (search needs) returns-2)

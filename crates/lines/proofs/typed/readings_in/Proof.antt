@@ -42,7 +42,5 @@ returns-2 : tie.Need-returns-2 Inv-loop μ-loop
 returns-2 c = let l = c .before .loop in fill-done _ 0 0 (l .out) (l .i) (l .inv .2) (λ j h k. absurd (omega (arith, c .loop-test .left)))
 
 pub readings-in-spec : {M : Type 1} → statement M
-readings-in-spec =
-    tie.close
-    (tie.spec Inv-loop μ-loop returns (λ c. (omega arith, at-start _, fill-start _ 0 0)) (search needs) mul-n element-copy-out-n (search needs)
-    (λ c. omega arith) (λ c. omega arith) one-more-requires (λ c. omega arith) (λ c. omega arith) loop-again returns-2)
+readings-in-spec = tie.close (tie.spec Inv-loop μ-loop returns (λ c. (omega arith, at-start _, fill-start _ 0 0)) (search needs) mul-n element-copy-out-n (search needs) (λ c. omega arith)
+    (λ c. omega arith) one-more-requires (λ c. omega arith) (λ c. omega arith) loop-again returns-2)

@@ -28,7 +28,5 @@ returns : tie.Need-returns Inv-loop μ-loop
 returns c = let l = c .before .loop in let a = c .before .before .before .args in fill-done _ nan nought (l .out) (l .i) (l .inv .2) (target-left (a .n) _ (l .i) (a .v .now) (l .inv .1) (c .loop-test .left))
 
 pub targets-in-spec : {M : Type 1} → statement M
-targets-in-spec =
-    tie.close
-    (tie.spec Inv-loop μ-loop (search needs) (λ c. (omega arith, c .runs-of .ensures, fill-start _ nan nought)) (λ c. omega arith) (λ c. omega arith)
+targets-in-spec = tie.close (tie.spec Inv-loop μ-loop (search needs) (λ c. (omega arith, c .runs-of .ensures, fill-start _ nan nought)) (λ c. omega arith) (λ c. omega arith)
     (λ c. omega arith) (search needs) (λ c. omega arith) (λ c. omega arith) (λ c. omega arith) (λ c. omega arith) loop-again returns)

@@ -41,10 +41,8 @@ returns-3 : tie.Need-returns-3 Inv-loop μ-loop
 returns-3 c = let a = c .before .before .before .args in let l = c .before .loop in walk-end (a .kind) (a .group) (a .text .now) (a .v .now) (a .from) (a .to) (l .v) (l .at) (l .k) (l .inv) (c .loop-test .left)
 
 pub read-on-spec : {M : Type 1} → statement M
-read-on-spec =
-    tie.close
-    (tie.spec Inv-loop μ-loop loop-holds (search needs) (search needs) (search needs) (search needs)
+read-on-spec = tie.close (tie.spec Inv-loop μ-loop loop-holds (search needs) (search needs) (search needs) (search needs)
     (λ c. let h = c .before .before .before .before .before .before .before .before .loop .inv in omega arith)
-    (λ c. let h = c .before .before .before .before .before .before .before .before .loop .inv in omega arith) (search needs) (search needs) returns
-    (search needs) (search needs) returns-2 (λ c. let h = c .before .before .before .before .before .before .before .before .loop .inv in omega arith)
+    (λ c. let h = c .before .before .before .before .before .before .before .before .loop .inv in omega arith) (search needs) (search needs) returns (search needs) (search needs) returns-2
+    (λ c. let h = c .before .before .before .before .before .before .before .before .loop .inv in omega arith)
     (λ c. let h = c .before .before .before .before .before .before .before .before .loop .inv in omega arith) loop-again returns-3)

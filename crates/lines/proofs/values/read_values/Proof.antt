@@ -35,6 +35,4 @@ returns-3 c =
     (c .before .before .before .before .before .before .if1 .left) _ (c .before .before .before .before .before .count-of .ensures .0) _ _ (r .ensures) _ (c .before .verdict .given .1)
 
 pub read-values-spec : {M : Type 1} → statement M
-read-values-spec =
-    tie.close
-    (tie.spec (search needs) returns (search needs) read-on-requires (search needs) read-rest-requires (search needs) returns-2 returns-3)
+read-values-spec = tie.close (tie.spec (search needs) returns (search needs) read-on-requires (search needs) read-rest-requires (search needs) returns-2 returns-3)

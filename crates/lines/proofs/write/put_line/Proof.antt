@@ -54,7 +54,5 @@ returns-2 c =
     )
 
 pub put-line-spec : {M : Type 1} → statement M
-put-line-spec =
-    tie.close
-    (tie.spec (search needs) returns (search needs) slice-write-buf put-numbers-requires slice-write-buf-2 add-t7
+put-line-spec = tie.close (tie.spec (search needs) returns (search needs) slice-write-buf put-numbers-requires slice-write-buf-2 add-t7
     (λ c. let p = c .before .before .put-numbers in simp length-set (p .kept .0 ∙ simp length-set)) returns-2)

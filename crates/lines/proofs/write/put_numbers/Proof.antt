@@ -52,7 +52,5 @@ returns : tie.Need-returns Inv-loop μ-loop
 returns c = let l = c .before .loop in let q : l .k ≡ c .before .before .before .args .n = omega (arith, l .inv .0, c .loop-test .left) in rw (← q) (l .inv .2, l .inv .3)
 
 pub put-numbers-spec : {M : Type 1} → statement M
-put-numbers-spec =
-    tie.close
-    (tie.spec Inv-loop μ-loop loop-holds (λ c. omega arith) (λ c. omega arith) (search needs) (search needs) slice-write-buf add-put-at (search needs)
+put-numbers-spec = tie.close (tie.spec Inv-loop μ-loop loop-holds (λ c. omega arith) (λ c. omega arith) (search needs) (search needs) slice-write-buf add-put-at (search needs)
     (λ c. omega arith) (λ c. omega arith) loop-again (λ c. c .before .loop .inv .1) returns)

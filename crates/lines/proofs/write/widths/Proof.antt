@@ -41,7 +41,5 @@ returns : tie.Need-returns Inv-loop μ-loop
 returns c = let l = c .before .loop in let q : l .k ≡ c .before .before .args .n = omega (arith, l .inv .0, c .loop-test .left) in rw (← q) (l .inv .1, l .inv .2)
 
 pub widths-spec : {M : Type 1} → statement M
-widths-spec =
-    tie.close
-    (tie.spec Inv-loop μ-loop loop-holds (λ c. omega arith) (λ c. omega arith) (search needs) (search needs) (search needs) add-sum add-sum-2
-    (λ c. omega arith) (λ c. omega arith) loop-again returns)
+widths-spec = tie.close (tie.spec Inv-loop μ-loop loop-holds (λ c. omega arith) (λ c. omega arith) (search needs) (search needs) (search needs) add-sum add-sum-2 (λ c. omega arith)
+    (λ c. omega arith) loop-again returns)

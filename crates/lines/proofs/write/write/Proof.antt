@@ -19,7 +19,5 @@ returns-2 c =
     (spelled (a .group) (a .message) _ _ (c .before .before .before .before .kind-is .ensures) (c .before .before .before .before .before .before .before .numbers-of .ensures .0)) (c .before .before .put-line .ensures)
 
 pub write-spec : {M : Type 1} → statement M
-write-spec =
-    tie.close
-    (tie.spec (search needs) returns (λ c κs. sym (c .before .in-range .ensures) ∙ not-false _ (c .if1 .left)) (search needs)
+write-spec = tie.close (tie.spec (search needs) returns (λ c κs. sym (c .before .in-range .ensures) ∙ not-false _ (c .if1 .left)) (search needs)
     (λ c κs. let n = c .before .before .before .before .numbers-of .ensures in (n .1, n .2)) (search needs) returns-2)

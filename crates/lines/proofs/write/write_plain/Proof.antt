@@ -33,6 +33,4 @@ returns-2 c =
     (spellLine (a .group) (plain (a .head))) (a .buf .now) (c .if1 .left)
 
 pub write-plain-spec : {M : Type 1} → statement M
-write-plain-spec =
-    tie.close
-    (tie.spec (search needs) (search needs) (search needs) (search needs) (search needs) put-line-requires (search needs) returns returns-2)
+write-plain-spec = tie.close (tie.spec (search needs) (search needs) (search needs) (search needs) (search needs) put-line-requires (search needs) returns returns-2)

@@ -18,8 +18,5 @@ returns-3 : tie.Need-returns-3
 returns-3 c = let a = c .before .before .before .before .before .before .args in line-taken (a .self) (a .line .now) _ (c .before .before .before .before .if1 .left) _ (c .before .before .before .scan .ensures) (c .before .before .if2 .left) (c .take-text .ensures)
 
 pub take-spec : {M : Type 1} → statement M
-take-spec =
-    tie.close
-    (tie.spec (search needs) returns (search needs) (λ c. omega (arith, scan-inside _ _ (c .scan .ensures), c .before .if1 .left)) (search needs)
-    returns-2 (λ c. sym (length-take-le _ _ (scan-inside _ _ (c .before .before .scan .ensures))))
-    (λ c κs. text-tabs _ _ (c .before .before .scan .ensures)) returns-3)
+take-spec = tie.close (tie.spec (search needs) returns (search needs) (λ c. omega (arith, scan-inside _ _ (c .scan .ensures), c .before .if1 .left)) (search needs) returns-2
+    (λ c. sym (length-take-le _ _ (scan-inside _ _ (c .before .before .scan .ensures)))) (λ c κs. text-tabs _ _ (c .before .before .scan .ensures)) returns-3)

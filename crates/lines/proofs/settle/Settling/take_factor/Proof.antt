@@ -37,7 +37,5 @@ returns-3 c =
     (c .before .before .before .before .limit-of .ensures) (c .before .before .before .read-at .ensures) (z .pre .7) (omega (arith, z .pre .6)) _ _ _ (c .before .enum-told2 .given .1) (c .stop2 .ensures)
 
 pub take-factor-spec : {M : Type 1} → statement M
-take-factor-spec =
-    tie.close
-    (tie.spec (search needs) (search needs) (search needs) (λ c. omega (arith, c .before .before .before .before .pre .3)) (search needs)
-    (search needs) take-weight-requires (search needs) (search needs) (search needs) (search needs) returns returns-2 returns-3)
+take-factor-spec = tie.close (tie.spec (search needs) (search needs) (search needs) (λ c. omega (arith, c .before .before .before .before .pre .3)) (search needs) (search needs)
+    take-weight-requires (search needs) (search needs) (search needs) (search needs) returns returns-2 returns-3)

@@ -31,8 +31,5 @@ returns-3 c =
     (plain-stop (a .self) Filter _ (c .before .before .before .before .before .before .any-group .ensures) (a .text .now) _ _ (c .before .before .before .before .read-values .ensures) (withFilter (a .self .settings)) _ _ (c .before .before .why .given .1) (c .stop2 .ensures))
 
 pub take-filter-spec : {M : Type 1} → statement M
-take-filter-spec =
-    tie.close
-    (tie.spec (search needs) (search needs) returns (search needs) read-values-requires (search needs) (search needs) (search needs) (search needs)
-    (search needs) (λ c κs. c .before .before .before .before .before .before .before .before .before .before .pre .0) (search needs) (search needs)
-    returns-2 returns-3)
+take-filter-spec = tie.close (tie.spec (search needs) (search needs) returns (search needs) read-values-requires (search needs) (search needs) (search needs) (search needs) (search needs)
+    (λ c κs. c .before .before .before .before .before .before .before .before .before .before .pre .0) (search needs) (search needs) returns-2 returns-3)

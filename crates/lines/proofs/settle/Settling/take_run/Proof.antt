@@ -61,7 +61,5 @@ returns-5 c =
     (omega (arith, f, c .before .before .before .before .before .before .before .if2 .left)) _ _ _ (c .before .enum-told2 .given .1) (c .stop4 .ensures)))
 
 pub take-run-spec : {M : Type 1} → statement M
-take-run-spec =
-    tie.close
-    (tie.spec (search needs) (search needs) returns (search needs) returns-2 (search needs) (search needs) (search needs) (search needs)
-    (search needs) take-certificate-requires (search needs) (search needs) (search needs) (search needs) returns-3 returns-4 returns-5)
+take-run-spec = tie.close (tie.spec (search needs) (search needs) returns (search needs) returns-2 (search needs) (search needs) (search needs) (search needs) (search needs)
+    take-certificate-requires (search needs) (search needs) (search needs) (search needs) returns-3 returns-4 returns-5)

@@ -27,8 +27,5 @@ returns-4 c =
     (c .before .before .before .runs-of .ensures) (c .before .if3 .left) (c .take-run .ensures)
 
 pub take-text-spec : {M : Type 1} → statement M
-take-text-spec =
-    tie.close
-    (tie.spec (λ c κs. (omega (arith, c .if1 .taken), c .before .before .pre)) returns
-    (λ c κs. (omega (arith, c .if2 .taken), c .before .before .before .pre)) returns-2 (search needs) (search needs) (search needs) returns-3
-    take-run-requires returns-4)
+take-text-spec = tie.close (tie.spec (λ c κs. (omega (arith, c .if1 .taken), c .before .before .pre)) returns (λ c κs. (omega (arith, c .if2 .taken), c .before .before .before .pre))
+    returns-2 (search needs) (search needs) (search needs) returns-3 take-run-requires returns-4)

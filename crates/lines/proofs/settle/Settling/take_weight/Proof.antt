@@ -37,8 +37,6 @@ returns-3 c =
     (c .before .before .before .before .before .limit-of .ensures) (c .before .before .before .read-at .ensures) (z .pre .7) (omega (arith, z .pre .6)) _ _ _ (c .before .enum-told2 .given .1) (c .stop2 .ensures)
 
 pub take-weight-spec : {M : Type 1} → statement M
-take-weight-spec =
-    tie.close
-    (tie.spec (search needs) (search needs) (search needs) (search needs) (search needs) certificate-of-requires with-run-requires
-    (λ c κs. c .before .before .before .before .before .before .before .before .before .before .before .pre .0) (search needs) (search needs)
-    (search needs) (search needs) returns returns-2 returns-3)
+take-weight-spec = tie.close (tie.spec (search needs) (search needs) (search needs) (search needs) (search needs) certificate-of-requires with-run-requires
+    (λ c κs. c .before .before .before .before .before .before .before .before .before .before .before .pre .0) (search needs) (search needs) (search needs) (search needs) returns returns-2
+    returns-3)

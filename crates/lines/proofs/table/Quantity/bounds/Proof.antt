@@ -26,25 +26,15 @@ returns-6 c = limit-at _ _ (c .before .before .before .before .enum-told6 .given
 
 pub bounds-spec : {M : Type 1} → statement M
 unfolding limitFor
-bounds-spec =
-    tie.close
-    (tie.spec (search needs) (search needs) (search needs) (search needs) (search needs) (search needs) (search needs) (search needs) (search needs)
-    (search needs) (search needs) (search needs) (search needs) (search needs) (search needs) (search needs) (search needs) (search needs)
-    (search needs) (search needs) (search needs) (search needs) (search needs) (search needs) (search needs) (search needs) (search needs)
-    (search needs) (search needs) (search needs) (search needs) (search needs) (search needs) (search needs) (search needs) (search needs)
-    (search needs) (search needs) (search needs) (search needs) (search needs) (search needs) (search needs) (search needs) (search needs)
-    (search needs) (search needs) (search needs) (search needs) (search needs) (search needs) (search needs) (search needs) (search needs) returns
-    returns-2 (λ c. limit-at _ _ (c .before .enum-told3 .given .1) (c .made3 .ensures))
-    (λ c. limit-at _ _ (c .before .enum-told4 .given .1) (c .made4 .ensures)) returns-5 returns-6
-    (λ c. limit-at _ _ (c .before .enum-told7 .given .1) (c .made7 .ensures))
-    (λ c. limit-at _ _ (c .before .enum-told8 .given .1) (c .made8 .ensures))
-    (λ c. limit-at _ _ (c .before .enum-told9 .given .1) (c .made9 .ensures))
-    (λ c. limit-at _ _ (c .before .enum-told10 .given .1) (c .made10 .ensures))
-    (λ c. limit-at _ _ (c .before .enum-told11 .given .1) (c .made11 .ensures))
-    (λ c. limit-at _ _ (c .before .enum-told12 .given .1) (c .made12 .ensures))
-    (λ c. limit-at _ _ (c .before .enum-told13 .given .1) (c .made13 .ensures))
-    (λ c. limit-at _ _ (c .before .enum-told14 .given .1) (c .made14 .ensures))
-    (λ c. limit-at _ _ (c .before .enum-told15 .given .1) (c .made15 .ensures))
-    (λ c. limit-at _ _ (c .before .enum-told16 .given .1) (c .made16 .ensures))
-    (λ c. limit-at _ _ (c .before .enum-told17 .given .1) (c .made17 .ensures))
-    (λ c. limit-at _ _ (c .before .enum-told18 .given .1) (c .made18 .ensures)))
+bounds-spec = tie.close (tie.spec (search needs) (search needs) (search needs) (search needs) (search needs) (search needs) (search needs) (search needs) (search needs) (search needs)
+    (search needs) (search needs) (search needs) (search needs) (search needs) (search needs) (search needs) (search needs) (search needs) (search needs) (search needs) (search needs)
+    (search needs) (search needs) (search needs) (search needs) (search needs) (search needs) (search needs) (search needs) (search needs) (search needs) (search needs) (search needs)
+    (search needs) (search needs) (search needs) (search needs) (search needs) (search needs) (search needs) (search needs) (search needs) (search needs) (search needs) (search needs)
+    (search needs) (search needs) (search needs) (search needs) (search needs) (search needs) (search needs) (search needs) returns returns-2
+    (λ c. limit-at _ _ (c .before .enum-told3 .given .1) (c .made3 .ensures)) (λ c. limit-at _ _ (c .before .enum-told4 .given .1) (c .made4 .ensures)) returns-5 returns-6
+    (λ c. limit-at _ _ (c .before .enum-told7 .given .1) (c .made7 .ensures)) (λ c. limit-at _ _ (c .before .enum-told8 .given .1) (c .made8 .ensures))
+    (λ c. limit-at _ _ (c .before .enum-told9 .given .1) (c .made9 .ensures)) (λ c. limit-at _ _ (c .before .enum-told10 .given .1) (c .made10 .ensures))
+    (λ c. limit-at _ _ (c .before .enum-told11 .given .1) (c .made11 .ensures)) (λ c. limit-at _ _ (c .before .enum-told12 .given .1) (c .made12 .ensures))
+    (λ c. limit-at _ _ (c .before .enum-told13 .given .1) (c .made13 .ensures)) (λ c. limit-at _ _ (c .before .enum-told14 .given .1) (c .made14 .ensures))
+    (λ c. limit-at _ _ (c .before .enum-told15 .given .1) (c .made15 .ensures)) (λ c. limit-at _ _ (c .before .enum-told16 .given .1) (c .made16 .ensures))
+    (λ c. limit-at _ _ (c .before .enum-told17 .given .1) (c .made17 .ensures)) (λ c. limit-at _ _ (c .before .enum-told18 .given .1) (c .made18 .ensures)))
