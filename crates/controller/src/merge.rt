@@ -5,7 +5,7 @@ use crate::state::Controller;
 use units::mask::has;
 
 // The mask of one run, of none at sixteen or above.
-pub fn run_bit(run: usize) -> u32
+pub(crate) fn run_bit(run: usize) -> u32
     ensures { λ r. ⌜ r ≡ runBit run ⌝ }
 {
     if Controller::RUNS <= run {
@@ -22,7 +22,7 @@ fn place_agrees(here: bool, a: u32, b: u32) -> bool
 }
 
 // Whether two sets of readings agree on every run that is in both masks.
-pub fn readings_agree(shared: u32, a: [u32; 16], b: [u32; 16]) -> bool
+pub(crate) fn readings_agree(shared: u32, a: [u32; 16], b: [u32; 16]) -> bool
     ensures { λ r. ⌜ r ≡ agrees shared a b ⌝ }
 {
     let mut same = true;
@@ -41,7 +41,7 @@ fn place_merged(here: bool, new: u32, old: u32) -> u32
 }
 
 // The readings of the mask from the new set, the others from the old one.
-pub fn merge_readings(mask: u32, new: [u32; 16], old: [u32; 16]) -> [u32; 16]
+pub(crate) fn merge_readings(mask: u32, new: [u32; 16], old: [u32; 16]) -> [u32; 16]
     ensures { λ r. ⌜ r ≡ merged mask new old ⌝ }
 {
     let mut next = old;
@@ -54,7 +54,7 @@ pub fn merge_readings(mask: u32, new: [u32; 16], old: [u32; 16]) -> [u32; 16]
 }
 
 // The readings of the mask, and 0 for the others.
-pub fn select_readings(mask: u32, readings: [u32; 16]) -> [u32; 16]
+pub(crate) fn select_readings(mask: u32, readings: [u32; 16]) -> [u32; 16]
     ensures { λ r. ⌜ r ≡ selected mask readings ⌝ }
 {
     merge_readings(mask, readings, [0u32; 16])

@@ -70,7 +70,7 @@ impl Controller {
     }
 
     // The part that a handler goes by.
-    pub fn brief(self) -> Brief
+    pub(crate) fn brief(self) -> Brief
         ensures { λ r. ⌜ r ≡ briefOf self ⌝ }
     {
         let phase = self.phase;
@@ -86,7 +86,7 @@ impl Controller {
     }
 
     // What the seat of a number holds, nothing past the last seat.
-    pub fn ballot(self, seat: usize) -> Ballot
+    pub(crate) fn ballot(self, seat: usize) -> Ballot
         ensures { λ r. ⌜ r ≡ ballotAt self seat ⌝ }
     {
         if seat < Controller::CONTROLLERS {

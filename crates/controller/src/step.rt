@@ -217,7 +217,7 @@ impl Controller {
     }
 
     // A step on any inputs: 6 where one is out of range. `step` makes the messages of its answer.
-    pub fn checked(self, numbers: Numbers, message: Message) -> Answer
+    pub(crate) fn checked(self, numbers: Numbers, message: Message) -> Answer
         ensures { λ r. ⌜ r ≡ stepped numbers self message ⌝ }
     {
         if self.inputs_in_range(numbers, message) {

@@ -44,7 +44,7 @@ impl Controller {
 
 impl Answer {
     // The answer with its messages made.
-    pub fn tell(self, numbers: Numbers) -> Told
+    pub(crate) fn tell(self, numbers: Numbers) -> Told
         ensures { λ r. ⌜ r ≡ told numbers self ⌝ }
     {
         let next = self.next;

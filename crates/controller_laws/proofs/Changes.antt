@@ -16,7 +16,7 @@ use Rattle.units.specs.declared.settings.Numbers.{Numbers}
 use Rattle.units.specs.Labels.{roundFits}
 use Rattle.units.specs.Limits.{controllersTop, rawTop}
 use Rattle.units.specs.Mask.{inMask}
-use Rattle.units.proofs.Every.{and-left, and-right, every-at}
+use Rattle.units.proofs.Every.{absurd-by, and-left, and-right, every-at}
 use Rattle.units.proofs.Masks.{no-run, in-and, in-or}
 use Rattle.vote.specs.declared.digest.Digest.{Digest}
 use Rattle.vote.specs.declared.votes.Ballot.{Ballot}
@@ -197,7 +197,7 @@ none-cast (suc n) zero = refl
 none-cast (suc n) (suc i) = none-cast n i
 
 pub not-missing : {A : Type 0} {d : Digest} → Missing ≡ Cast d → A
-not-missing p = let z : _≡_ {A = ℕ} 0 1 = cc in absurd (omega arith)
+not-missing p = absurd-by (cc)
 
 -- a start holds no vote
 pub no-vote : {A : Type 0} (i : ℕ) {d : Digest} → getD (replicate controllersTop nobody) i nobody .ballot ≡ Cast d → A

@@ -22,7 +22,7 @@ use Rattle.units.specs.Limits.{runsTop, rawTop, xTop, varianceTop}
 use Rattle.units.specs.Mask.{maskEnd, maskFits}
 use Rattle.units.specs.Pick.{pick}
 use Rattle.units.specs.Settings.{groupFits, numbersFit}
-use Rattle.units.proofs.Every.{and-left, and-right, and-three}
+use Rattle.units.proofs.Every.{absurd-by, and-left, and-right, and-three}
 use Rattle.units.proofs.Masks.{some-mask, or-above, or-below}
 use Rattle.units.proofs.Tab.{length-tab, getD-tab}
 use Rattle.floats.specs.Ranges.{estimateFits, noEstimate, stateFits, targetsFit}
@@ -338,4 +338,4 @@ started-fits s own floor = tested (numbersFit s && ltb own (s .group .g) && floo
   where
     tested : (b : Bool) → (numbersFit s && ltb own (s .group .g) && floorFits floor) ≡ b → pick b Taken (Denied Range) ≡ Taken → controllerFits s (startOf s own floor) ≡ true
     tested true e h = let q = and-three (numbersFit s) (ltb own (s .group .g)) (floorFits floor) e in start-fits s own floor (q .0) (q .1) (q .2)
-    tested false e h = let z : _≡_ {A = ℕ} 0 1 = cc in absurd (omega arith)
+    tested false e h = absurd-by (cc)

@@ -62,7 +62,7 @@ module _ (m : ℕ) (label : RoundLabel) (d : Digest) (small : m ≤ runsTop) whe
   pub legal-exact : legal m label d ≡ true → LegalFor m label d
   legal-exact h = let q = legal-facts m label d h in record { some-run = q .some-run; own-runs = subst (λ (n : ℕ). d .mask < n) (mask-end-is m small) (q .own-runs); older = q .older }
 
-  pub exact-legal : LegalFor m label d → legal m label d ≡ true
+  exact-legal : LegalFor m label d → legal m label d ≡ true
   exact-legal q = legal-made m label d small (record { some-run = q .some-run; own-runs = subst (λ (n : ℕ). d .mask < n) (sym (mask-end-is m small)) (q .own-runs); older = q .older })
 
 -- ---- readings

@@ -14,7 +14,7 @@ use Rattle.units.specs.declared.refusal.Refusal.the-variants.{Lacking}
 use Rattle.units.specs.declared.settings.Numbers.{Numbers}
 use Rattle.units.specs.Labels.{before, roundFits}
 use Rattle.units.specs.Pick.{pick}
-use Rattle.units.proofs.Every.{and-both, and-three}
+use Rattle.units.proofs.Every.{absurd-by, and-both, and-three}
 use Rattle.units.proofs.Picked.{by-yes}
 use Rattle.vote.specs.declared.digest.Digest.{Digest}
 use Rattle.vote.specs.declared.judge.Decision.{Decision}
@@ -105,7 +105,7 @@ module _ (s : Numbers) (c : Controller) (a : Message) (i : inputsFit s c a ≡ t
         }
       where
         never-decided : {d : Digest} → Undecided ≡ Decided d → ⊥
-        never-decided z = let y : _≡_ {A = ℕ} 0 1 = cc in omega arith
+        never-decided z = absurd-by (cc)
     judged-by (Decided chosen) e q = record { issued = went; lacked = lacks; undecided = λ n. absurd (n chosen (q .1)) }
       where
         it : (d : Digest) → Decides v d → decisionWith s c seat digest ≡ Decided d

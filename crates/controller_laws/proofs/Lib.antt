@@ -18,4 +18,5 @@ pub mod Sets
 pub mod Changes
 pub mod Outcomes
 pub mod Clashes
+pub mod Computes
 pub mod Session

@@ -1,5 +1,5 @@
 -- The mask of one run, `runBit`: which run it has, and its number. Assumes nothing.
-use Prim.Native.Nat.{ℕ, _+_, _*_, _-_, _/_, _%_, _^_, _≤_, _<_}
+use Prim.Native.Nat.{ℕ, suc, _+_, _*_, _-_, _/_, _%_, _^_, _≤_, _<_}
 use native.Mathlib.Omega.{arith}
 use native.Mathlib.Nat.{one-mul, pow-suc}
 use mathlib.Core.Path.{_≡_, sym, ap, _∙_}
@@ -31,8 +31,10 @@ run-bit-below run m h k = omega (arith, run-bit-is run (omega arith), mask-end-i
 
 -- a run that a mask has already
 pub or-run : (mask run : ℕ) → run < 16 → inMask mask run ≡ true → bitOr mask (runBit run) ≡ mask
-or-run mask run k h =
+or-run mask run small h =
     let e : mask / 2 ^ run % 2 ≡ 1 = eqb-true _ _ h in
-    let p : 2 ^ (1 + run) - 2 ^ run ≡ 2 ^ run = omega (arith, pow-suc 2 run) in
+    let k : 1 + run ≡ suc run = omega arith in
+    let d : 2 ^ (1 + run) ≡ 2 ^ run * 2 = ap (λ (n : ℕ). 2 ^ n) k ∙ pow-suc 2 run in
+    let p : 2 ^ (1 + run) - 2 ^ run ≡ 2 ^ run = omega (arith, d) in
     let q : bitAnd mask (2 ^ run) ≡ 2 ^ run = ap (bitAnd mask) (sym p) ∙ and-high mask 1 run ∙ ap (λ (n : ℕ). n * 2 ^ run) e ∙ one-mul (2 ^ run) in
-    ap (bitOr mask) (run-bit-is run k) ∙ omega (arith, or-add-and mask (2 ^ run), q)
+    ap (bitOr mask) (run-bit-is run small) ∙ omega (arith, or-add-and mask (2 ^ run), q)

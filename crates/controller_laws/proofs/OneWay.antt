@@ -63,7 +63,7 @@ use Rattle.controller_laws.proofs.Opened.{kinds-open, phases-open}
 use Rattle.controller_laws.proofs.Ways.{same-round}
 
 -- a choice whose sides are both r
-pub by-both : {A : Type 0} (t : Bool) {r x y : A} → r ≡ x → r ≡ y → r ≡ pick t x y
+by-both : {A : Type 0} (t : Bool) {r x y : A} → r ≡ x → r ≡ y → r ≡ pick t x y
 unfolding pick
 by-both true p q = p
 by-both false p q = q
@@ -75,7 +75,7 @@ early-busy Pending k = tt
 early-busy Voting k = absurd k
 
 -- digests that are not the same
-pub not-same : (d e : Digest) → (d ≡ e → ⊥) → same d e ≡ false
+not-same : (d e : Digest) → (d ≡ e → ⊥) → same d e ≡ false
 not-same d e n = told (same d e) refl
   where
     told : (b : Bool) → same d e ≡ b → b ≡ false

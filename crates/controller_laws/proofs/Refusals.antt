@@ -1,6 +1,5 @@
 -- What a refusal leaves: all but 12, 13 and 14 leave the controller as it was and send nothing; those three end the round. Assumes nothing.
 use Prim.Native.Nat.{ℕ}
-use native.Mathlib.Omega.{arith}
 use mathlib.Core.Path.{_≡_, refl, sym, ap, subst, _∙_}
 use mathlib.Core.Bool.{true, false, true≢false}
 use mathlib.Core.Logic.{_⊎_, inl, inr}
@@ -8,6 +7,7 @@ use Rattle.units.specs.declared.refusal.Refusal.{Refusal}
 use Rattle.units.specs.declared.refusal.Refusal.the-variants.{Range, Undecided, Lacking, Behind}
 use Rattle.units.specs.declared.refusal.Verdict.the-variants.{Taken, Refused as Denied}
 use Rattle.units.specs.declared.settings.Numbers.{Numbers}
+use Rattle.units.proofs.Every.{absurd-by}
 use Rattle.message.specs.declared.head.Head.{Head}
 use Rattle.message.specs.declared.value.Message.{Message}
 use Rattle.plan.specs.declared.planned.Effect.{Effect}
@@ -28,7 +28,7 @@ use Rattle.controller_laws.specs.Ways.Goes.{out, led}
 use Rattle.controller_laws.proofs.Ways.{refuses-keeps, goes}
 
 pub not-taken : {A : Type 0} {why : Refusal} → Taken ≡ Denied why → A
-not-taken p = let z : _≡_ {A = ℕ} 0 1 = cc in absurd (omega arith)
+not-taken p = absurd-by (cc)
 
 pub same-why : {w why : Refusal} → Denied w ≡ Denied why → w ≡ why
 same-why p = cc

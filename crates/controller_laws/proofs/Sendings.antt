@@ -14,7 +14,7 @@ use Rattle.units.specs.Limits.{labelTop}
 use Rattle.units.specs.Mask.{maskEnd}
 use Rattle.units.specs.Settings.{groupFits, numbersFit}
 use Rattle.units.proofs.Masks.{some-mask}
-use Rattle.units.proofs.Every.{and-both, no-way}
+use Rattle.units.proofs.Every.{absurd-by, and-both, no-way}
 use Rattle.units.proofs.InRange.{group-fits}
 use Rattle.floats.specs.Ranges.{stateFits, targetsFit}
 use Rattle.vote.specs.declared.digest.Digest.{Digest}
@@ -168,7 +168,7 @@ module _ (s : Numbers) (c : Controller) (fit : numbersFit s ≡ true) (v : Valid
     way-ready restarts = (tt, tt)
 
 pub none-sent : {A : Type 0} {head : Head} → Nothing ≡ One head → A
-none-sent q = let z : _≡_ {A = ℕ} 0 1 = cc in absurd (omega arith)
+none-sent q = absurd-by (cc)
 
 -- what holds of all that an answer sends holds of one of its messages
 pub one-of : (P : Head → Type 0) (x y : Sent) → OnSent P x → OnSent P y → (head : Head) → (x ≡ One head) ⊎ (y ≡ One head) → P head
@@ -243,7 +243,7 @@ module _ (s : Numbers) (c : Controller) (a : Message) where
   in-order (adopts-past ne e l k) q = refl
   in-order (asks e n lo) q = refl
   in-order (adverts e lo l) q = refl
-  in-order (asks-and-adverts e n l) q = let z : _≡_ {A = ℕ} 0 1 = cc in absurd (omega arith)
+  in-order (asks-and-adverts e n l) q = absurd-by (cc)
   in-order (collected e) q = refl
   in-order (lapses e) q = refl
   in-order (counts n e f) q = refl
@@ -251,7 +251,7 @@ module _ (s : Numbers) (c : Controller) (a : Message) where
   in-order (behind w d b) q = refl
   in-order (lacking w d b n) q = refl
   in-order (issues {first = Nothing} w d b n) q = refl
-  in-order (issues {first = One one} w d b n) q = let z : _≡_ {A = ℕ} 0 1 = cc in absurd (omega arith)
+  in-order (issues {first = One one} w d b n) q = absurd-by (cc)
   in-order restarts q = refl
 
   pub sent-in-order : stepped s c a .first ≡ Nothing → stepped s c a .second ≡ Nothing

@@ -99,6 +99,11 @@ module _ (held : ℕ) (readings : List ℕ) (size : length readings ≡ 16) (run
       (λ q. subst (λ (j : ℕ). getD (set readings run raw) j 0 ≡ getD readings j 0) (sym q) (getD-set-same readings run raw 0 (omega (arith, size)) ∙ sym e))
       (λ n. getD-set-other readings run i raw 0 n))
 
+-- what does not hold fails
+apart : (b : Bool) → (b ≡ true → ⊥) → b ≡ false
+apart true n = absurd (n refl)
+apart false n = refl
+
 same-set : {a b : Set} → a .mask ≡ b .mask → a .readings ≡ b .readings → a ≡ b
 same-set p q = λ i. record { mask = p i; readings = q i }
 
@@ -159,7 +164,3 @@ module _ (s : Numbers) (c : Controller) (a : Message) (i : inputsFit s c a ≡ t
               let k = eqb-false (getD (c .readings) run 0) raw b in
               sym (after u (refused Clash (is-clash (by-reading {run = run} {raw = raw} e old t k))))
               ∙ stands (heldBy c) (single run raw) (apart (agreed (heldBy c) (single run raw)) (λ h. k (sym (one-differs (c .held) (c .readings) size run raw small h t))))
-
-          apart : (b : Bool) → (b ≡ true → ⊥) → b ≡ false
-          apart true n = absurd (n refl)
-          apart false n = refl

@@ -16,6 +16,7 @@ use Rattle.units.specs.Labels.{before, justBefore}
 use Rattle.units.specs.Mask.{inMask}
 use Rattle.units.specs.Pick.{pick}
 use Rattle.floats.specs.Ranges.{sameState}
+use Rattle.units.proofs.Every.{absurd-by}
 use Rattle.vote.specs.declared.digest.Digest.{Digest}
 use Rattle.vote.specs.declared.judge.Decision.{Decision}
 use Rattle.vote.specs.declared.judge.Decision.the-variants.{Undecided, Decided, Refused as Unjudged}
@@ -218,8 +219,8 @@ module _ (s : Numbers) (c : Controller) (a : Message) where
 
     judged-way : (d : Decision) → decisionWith s c seat digest ≡ d → To h (judged (briefOf c) seat digest first d)
     unfolding judged
-    judged-way (Unjudged why) e = open-still v (λ chosen q. let z : _≡_ {A = ℕ} 0 1 = cc in omega arith)
-    judged-way Undecided e = open-still v (λ chosen q. let z : _≡_ {A = ℕ} 0 1 = cc in omega arith)
+    judged-way (Unjudged why) e = open-still v (λ chosen q. absurd-by (cc))
+    judged-way Undecided e = open-still v (λ chosen q. absurd-by (cc))
     judged-way (Decided chosen) e = chosen-way chosen e
 
   floor-way : (phase : Phase) → c .phase ≡ phase → To (Floor (c .label)) (votePlan s c (inFloor (briefOf c) phase))
