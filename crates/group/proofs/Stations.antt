@@ -32,7 +32,7 @@ use Rattle.session.specs.declared.stage.Core.{Core}
 use Rattle.session.specs.declared.stage.Stage.{Stage}
 use Rattle.session.specs.declared.stage.Stage.the-variants.{Settling as AtSettings, Waiting, Running, Ended}
 use Rattle.session.specs.Booting.{led, told}
-use Rattle.session.specs.Demand.{saidBy, stepBy}
+use Rattle.session.specs.Demand.{spokenIn, stepBy}
 use Rattle.session.specs.Reach.{FitsAt, CoreFits}
 use Rattle.fields.specs.Lines.{linesOf}
 use Rattle.session.specs.Turn.{Turn, numbersIn, groupIn, coreStart, runningWith, quiet, refusing, waitsFor, hears, answered, turnBy, stepping, turn}
@@ -56,23 +56,23 @@ Past Running = Unit {0}
 Past Ended = ⊥
 
 abbrev sureOf : ℕ → Core → List ℕ → List Mark
-sureOf i c ln = confirming i (saidBy c ln .head) (readLine (groupIn c) ln .verdict) (c .stage)
+sureOf i c ln = confirming i (spokenIn c ln .head) (readLine (groupIn c) ln .verdict) (c .stage)
 
 data Way (c : Core) (ln : List ℕ) : Type 0 where
   refuses : (why : Refusal) → turn c ln ≡ refusing c why → ((i : ℕ) → sureOf i c ln ≡ []) → ((w : Wire) (i : ℕ) → w .up i ≡ controllerIn (some c) → afterwards (numbersIn c) w (hand i ln) ≡ w)
       → Way c ln
-  rises : (own : ℕ) (floor : RoundLabel) → c .stage ≡ Waiting → readLine (groupIn c) ln .verdict ≡ Taken → saidBy c ln .head ≡ Start own floor → Way c ln
+  rises : (own : ℕ) (floor : RoundLabel) → c .stage ≡ Waiting → readLine (groupIn c) ln .verdict ≡ Taken → spokenIn c ln .head ≡ Start own floor → Way c ln
   steps : c .stage ≡ Running → readLine (groupIn c) ln .verdict ≡ Taken → Way c ln
 
 wait-turn : (c : Core) (ln : List ℕ) (stage : Stage) (v : Verdict) → stage ≡ Waiting → readLine (groupIn c) ln .verdict ≡ v
-    → turnBy stepping c ln stage ≡ hears (λ a. waitsFor c (a .head)) c (saidBy c ln) v
+    → turnBy stepping c ln stage ≡ hears (λ a. waitsFor c (a .head)) c (spokenIn c ln) v
 unfolding turnBy
-wait-turn c ln stage v e ev = rw e (ap (hears (λ a. waitsFor c (a .head)) c (saidBy c ln)) ev)
+wait-turn c ln stage v e ev = rw e (ap (hears (λ a. waitsFor c (a .head)) c (spokenIn c ln)) ev)
 
 run-turn : (c : Core) (ln : List ℕ) (stage : Stage) (v : Verdict) → stage ≡ Running → readLine (groupIn c) ln .verdict ≡ v
-    → turnBy stepping c ln stage ≡ hears (stepping c) c (saidBy c ln) v
+    → turnBy stepping c ln stage ≡ hears (stepping c) c (spokenIn c ln) v
 unfolding turnBy
-run-turn c ln stage v e ev = rw e (ap (hears (stepping c) c (saidBy c ln)) ev)
+run-turn c ln stage v e ev = rw e (ap (hears (stepping c) c (spokenIn c ln)) ev)
 
 unsure : (i : ℕ) (h : Head) (v : Verdict) (stage : Stage) → stage ≡ Waiting → confirming i h v stage ≡ []
 unsure i h v stage e = rw e
@@ -90,19 +90,19 @@ way : (c : Core) (ln : List ℕ) (stage : Stage) → c .stage ≡ stage → Past
 unfolding hears
 way c ln AtSettings e p v ev = absurd p
 way c ln Waiting e p Taken ev =
-    elim (waits-way c (saidBy c ln .head)) [
-      | inl q ↦ refuses Closed (wait-turn c ln (c .stage) Taken e ev ∙ q .0) (λ i. unsure i (saidBy c ln .head) (readLine (groupIn c) ln .verdict) (c .stage) e)
-          (λ w i u. unread (numbersIn c) w i (saidBy c ln) _ ev (u ∙ ap (controllerAt c) e) (q .1))
+    elim (waits-way c (spokenIn c ln .head)) [
+      | inl q ↦ refuses Closed (wait-turn c ln (c .stage) Taken e ev ∙ q .0) (λ i. unsure i (spokenIn c ln .head) (readLine (groupIn c) ln .verdict) (c .stage) e)
+          (λ w i u. unread (numbersIn c) w i (spokenIn c ln) _ ev (u ∙ ap (controllerAt c) e) (q .1))
       | inr q ↦ rises (q .0) (q .1) e ev (q .2)
     ]
 way c ln Waiting e p (Denied why) ev =
-    refuses why (wait-turn c ln (c .stage) (Denied why) e ev) (λ i. unsure i (saidBy c ln .head) (readLine (groupIn c) ln .verdict) (c .stage) e)
-    (λ w i u. ap (hears-line (numbersIn c) w i (saidBy c ln)) ev)
+    refuses why (wait-turn c ln (c .stage) (Denied why) e ev) (λ i. unsure i (spokenIn c ln .head) (readLine (groupIn c) ln .verdict) (c .stage) e)
+    (λ w i u. ap (hears-line (numbersIn c) w i (spokenIn c ln)) ev)
 way c ln Running e p Taken ev = steps e ev
 way c ln Running e p (Denied why) ev =
     refuses why (run-turn c ln (c .stage) (Denied why) e ev)
-    (λ i. ap (confirming i (saidBy c ln .head) (readLine (groupIn c) ln .verdict)) e ∙ ap (λ (x : Verdict). confirming i (saidBy c ln .head) x Running) ev)
-    (λ w i u. ap (hears-line (numbersIn c) w i (saidBy c ln)) ev)
+    (λ i. ap (confirming i (spokenIn c ln .head) (readLine (groupIn c) ln .verdict)) e ∙ ap (λ (x : Verdict). confirming i (spokenIn c ln .head) x Running) ev)
+    (λ w i u. ap (hears-line (numbersIn c) w i (spokenIn c ln)) ev)
 way c ln Ended e p v ev = absurd p
 
 -- ---- what holds of every program that runs
@@ -216,20 +216,20 @@ module _ (w : Stations) (i : ℕ) (ln : List ℕ) (c : Core) (u : w .up i ≡ so
   wire-turn : CoreFits c → Way c ln → afterwards s (wireIn s w) (hand i ln) ≡ wireIn s (made (turn c ln) (sureOf i c ln))
   wire-turn f (refuses why e q r) = r (wireIn s w) i (ap controllerIn u) ∙ no-step why ∙ sym (λ t. wireIn s (made (e t) (q i t)))
   wire-turn f (rises own floor st v e) =
-      let m = in-range (groupIn c) (saidBy c ln) (read-fits (groupIn c) ln v) .head in
-      let h = start-head (groupIn c) (saidBy c ln .head) own floor e m in
+      let m = in-range (groupIn c) (spokenIn c ln) (read-fits (groupIn c) ln v) .head in
+      let h = start-head (groupIn c) (spokenIn c ln .head) own floor e m in
       let g : numbersFit s ≡ true = subst (λ (x : Stage). FitsAt c x) st f in
-      let r : rising s (saidBy c ln .head) ≡ some (startOf s own floor) = ap (rising s) e ∙ start-rises s own floor g (h .0) (h .1) in
-      let z : sureOf i c ln ≡ [] = ap (confirming i (saidBy c ln .head) (readLine (groupIn c) ln .verdict)) st in
-      hears-as s (wireIn s w) i (saidBy c ln) _ none v (ap controllerIn u ∙ ap (controllerAt c) st)
+      let r : rising s (spokenIn c ln .head) ≡ some (startOf s own floor) = ap (rising s) e ∙ start-rises s own floor g (h .0) (h .1) in
+      let z : sureOf i c ln ≡ [] = ap (confirming i (spokenIn c ln .head) (readLine (groupIn c) ln .verdict)) st in
+      hears-as s (wireIn s w) i (spokenIn c ln) _ none v (ap controllerIn u ∙ ap (controllerAt c) st)
       ∙ sym ((λ t. wireIn s (made (first-start c ln own floor st v e t) (z t)))
-      ∙ wire-made (quiet (runningWith c (startOf s own floor))) [] (rising s (saidBy c ln .head)) (spoken s (w .sent)) (sym r) (quiet-sent s (w .sent)))
+      ∙ wire-made (quiet (runningWith c (startOf s own floor))) [] (rising s (spokenIn c ln .head)) (spoken s (w .sent)) (sym r) (quiet-sent s (w .sent)))
   wire-turn f (steps st v) =
-      let z : sureOf i c ln ≡ confirms i (saidBy c ln .head) =
-      ap (confirming i (saidBy c ln .head) (readLine (groupIn c) ln .verdict)) st ∙ ap (λ (x : Verdict). confirming i (saidBy c ln .head) x Running) v in
-      hears-as s (wireIn s w) i (saidBy c ln) _ (some (c .controller)) v (ap controllerIn u ∙ ap (controllerAt c) st)
+      let z : sureOf i c ln ≡ confirms i (spokenIn c ln .head) =
+      ap (confirming i (spokenIn c ln .head) (readLine (groupIn c) ln .verdict)) st ∙ ap (λ (x : Verdict). confirming i (spokenIn c ln .head) x Running) v in
+      hears-as s (wireIn s w) i (spokenIn c ln) _ (some (c .controller)) v (ap controllerIn u ∙ ap (controllerAt c) st)
       ∙ sym ((λ t. wireIn s (made (turn-steps c ln st v t) (z t)))
-      ∙ wire-made (answered c (stepBy c ln)) (confirms i (saidBy c ln .head)) (some (stepBy c ln .next)) _ refl (spoken-step s (c .controller) (saidBy c ln) (w .sent)))
+      ∙ wire-made (answered c (stepBy c ln)) (confirms i (spokenIn c ln .head)) (some (stepBy c ln .next)) _ refl (spoken-step s (c .controller) (spokenIn c ln) (w .sent)))
 
 module _ (s : Numbers) (meters : Meters) where
   abbrev Follow : Stations → Stations → Type 0

@@ -40,7 +40,7 @@ use Rattle.session.specs.declared.stage.Core.{Core}
 use Rattle.session.specs.declared.stage.Stage.{Stage}
 use Rattle.session.specs.declared.stage.Stage.the-variants.{Settling as AtSettings, Waiting, Running, Ended}
 use Rattle.session.specs.Booting.{told}
-use Rattle.session.specs.Demand.{saidBy}
+use Rattle.session.specs.Demand.{spokenIn}
 use Rattle.fields.specs.Lines.{linesOf}
 use Rattle.session.specs.Turn.{Turn, numbersIn, groupIn, refusing, settlesTo, waitsFor, hears, sentText, verdictText, answerText, turnBy, stepping, turn}
 use Rattle.fields.proofs.Lines.{lines-feed, lines-none}
@@ -212,8 +212,8 @@ module _ (c : Core) where
   text-at : (line : List ℕ) (stage : Stage) → c .stage ≡ stage → Text c (turnBy stepping c line stage .text)
   unfolding turnBy
   text-at line AtSettings e = settles-text _ _
-  text-at line Waiting e = hears-text (λ a. waitsFor c (a .head)) (saidBy c line) _ (waits-text (saidBy c line .head))
-  text-at line Running e = hears-text (stepping c) (saidBy c line) _ (answer e _)
+  text-at line Waiting e = hears-text (λ a. waitsFor c (a .head)) (spokenIn c line) _ (waits-text (spokenIn c line .head))
+  text-at line Running e = hears-text (stepping c) (spokenIn c line) _ (answer e _)
   text-at line Ended e = silence
 
   pub turn-text : (line : List ℕ) → Text c (turn c line .text)

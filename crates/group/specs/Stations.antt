@@ -17,7 +17,7 @@ use Rattle.session.specs.declared.stage.Core.{Core}
 use Rattle.session.specs.declared.stage.Stage.{Stage}
 use Rattle.session.specs.declared.stage.Stage.the-variants.{Settling as AtSettings, Waiting, Running, Ended}
 use Rattle.session.specs.Booting.{led, told}
-use Rattle.session.specs.Demand.{saidBy}
+use Rattle.session.specs.Demand.{spokenIn}
 use Rattle.fields.specs.Lines.{linesOf}
 use Rattle.session.specs.Turn.{numbersIn, groupIn, coreStart, turn}
 use Rattle.group.specs.World.{Mark, WorldOf, EventOf, put, Takes, afterBy, OnwardBy, confirms}
@@ -55,7 +55,7 @@ turned w i l (some c) =
       up = put (w .up) i (some (turn c l .next));
       sent = puts (linesOf (turn c l .text)) (w .sent);
       stored = w .stored;
-      confirmed = confirming i (saidBy c l .head) (readLine (groupIn c) l .verdict) (c .stage) ++ w .confirmed;
+      confirmed = confirming i (spokenIn c l .head) (readLine (groupIn c) l .verdict) (c .stage) ++ w .confirmed;
     }
 
 abbrev pub turns : Takes Core (List ℕ) Given

@@ -55,7 +55,7 @@ module _ (input : List ℕ) (room : ℕ) where
       lt-leb : room < 2 * lineTop → leb (2 * lineTop) room ≡ false
       lt-leb k = by-test (leb (2 * lineTop) room) (λ e. absurd (let a = leb-true (2 * lineTop) room e in omega arith)) (λ e. e)
 
-  pub no-line : feedAt input ≡ length input → goesOn input room ≡ false
+  no-line : feedAt input ≡ length input → goesOn input room ≡ false
   unfolding goesOn
   no-line e = rw (eq-eqb (feedAt input) (length input) e) (and-none (leb (2 * lineTop) room))
     where

@@ -43,12 +43,12 @@ use Rattle.session.specs.declared.feed.Session.{Session}
 use Rattle.session.specs.declared.stage.Core.{Core}
 use Rattle.session.specs.declared.stage.Stage.the-variants.{Settling as AtSettings, Waiting}
 use Rattle.session.specs.Booting.{led, inputOf, Settles, Starts}
-use Rattle.session.specs.Feeding.{lineTurn, closed, fed, fedText, sessionStart}
+use Rattle.session.specs.Feeding.{lineTurn, lineDone, fed, fedText, sessionStart}
 use Rattle.session.specs.Pieces.{Feeds, Stands}
 use Rattle.session.specs.Pieces.Feeds.{none, more}
 use Rattle.session.specs.Turn.{Turn, coreStart, settledIn, runningWith, quiet, stepping, turn}
 use Rattle.session.proofs.Program.{first-start}
-use Rattle.session.proofs.Room.{fed-line, closed-room}
+use Rattle.session.proofs.Room.{fed-line, done-room}
 use Rattle.session.proofs.Turns.{settles-more, settles-whole, turn-settles}
 use Rattle.session.proofs.Whole.{start-stands, line-turn, next-stands}
 
@@ -76,7 +76,7 @@ module _ (x : Session) (line : List ℕ) (s : Stands x []) (w : feedAt line + 1 
 
   call : fed x line 0 ≡ record { next = after; took = length line; wrote = 0; verdict = Taken }
   call =
-      fed-line x line 0 (λ e. omega arith) ∙ ap (λ (u : Turn). closed x (feedAt line + 1) u 0) turned ∙ closed-room x (feedAt line + 1) (quiet d) 0 (omega arith)
+      fed-line x line 0 (λ e. omega arith) ∙ ap (λ (u : Turn). lineDone x (feedAt line + 1) u 0) turned ∙ done-room x (feedAt line + 1) (quiet d) 0 (omega arith)
       ∙ ap (λ (n : ℕ). record { next = after; took = n; wrote = 0; verdict = Taken }) w
 
   after-stands : Stands after []

@@ -21,12 +21,12 @@ use Rattle.controller_laws.proofs.Refusals.{refused-ends}
 use Rattle.session.specs.declared.feed.Fed.{Fed}
 use Rattle.session.specs.declared.feed.Session.{Session}
 use Rattle.session.specs.declared.stage.Stage.the-variants.{Settling as AtSettings}
-use Rattle.session.specs.Demand.{saidBy, stepBy, verdictOf, Unmoved, AllElse, RoundOver, Untouched, Demand1}
+use Rattle.session.specs.Demand.{spokenIn, stepBy, verdictOf, Unmoved, AllElse, RoundOver, Untouched, Demand1}
 use Rattle.session.specs.Feeding.{lineTurn, fed, fedText, sessionStart}
 use Rattle.session.specs.Pieces.{Feeds, Stands}
 use Rattle.session.specs.Station.{answers}
 use Rattle.session.specs.Turn.{Turn, numbersIn, refusing, answerText, stepping, turn}
-use Rattle.session.proofs.Room.{fed-line, text-line, closed-room, front, short}
+use Rattle.session.proofs.Room.{fed-line, text-line, done-room, front, short}
 use Rattle.session.proofs.Verdicts.{refused-turn, over-turn}
 use Rattle.session.proofs.Whole.{start-stands, line-turn, next-stands, run, whole-from}
 
@@ -44,7 +44,7 @@ module _ (x : Session) (piece buf : List ℕ) (n : feedAt piece ≡ length piece
   fed-is : length (t .text) ≤ length buf → fed x piece (length buf) ≡ after
   fed-is l =
       let z = ap {B = ℕ} (λ (u : Turn). length (u .text)) e in
-      fed-line x piece (length buf) n ∙ closed-room x (feedAt piece + 1) (lineTurn x piece) (length buf) (omega arith)
+      fed-line x piece (length buf) n ∙ done-room x (feedAt piece + 1) (lineTurn x piece) (length buf) (omega arith)
       ∙ ap (λ (u : Turn). record { next = record { core = u .next; carry = record { len = 0; bytes = x .carry .bytes } }; took = feedAt piece + 1; wrote = length (u .text); verdict = Taken }) e
 
   text-is : fedText x piece ≡ t .text
@@ -76,14 +76,14 @@ module _ (x : Session) (p : List ℕ) (s : Stands x p) (past : x .core .stage �
   over why v k l =
       let q = over-turn (x .core) line why k past v in
       let e = line-turn x p piece s ∙ q .turned in
-      let f = fed-is x piece buf n (stepping (x .core) (saidBy (x .core) line)) e l in
-      let h = refused-ends (numbersIn (x .core)) (x .core .controller) (saidBy (x .core) line) why (q .verdict) k in
+      let f = fed-is x piece buf n (stepping (x .core) (spokenIn (x .core) line)) e l in
+      let h = refused-ends (numbersIn (x .core)) (x .core .controller) (spokenIn (x .core) line) why (q .verdict) k in
       record {
         how = h;
         kept = all-else h;
         core = ap (λ (r : Fed). r .next .core) f;
         took = ap (λ (r : Fed). r .took) f;
-        buffer = buffer-is x piece buf n (stepping (x .core) (saidBy (x .core) line)) e l;
+        buffer = buffer-is x piece buf n (stepping (x .core) (spokenIn (x .core) line)) e l;
       }
 
   untouched : length buf < length (turn (x .core) line .text) → Untouched x piece buf

@@ -51,7 +51,7 @@ use Rattle.session.specs.declared.feed.Session.{Session}
 use Rattle.session.specs.declared.stage.Core.{Core}
 use Rattle.session.specs.declared.stage.Stage.{Stage}
 use Rattle.session.specs.declared.stage.Stage.the-variants.{Running}
-use Rattle.session.specs.Demand.{saidBy, stepBy}
+use Rattle.session.specs.Demand.{spokenIn, stepBy}
 use Rattle.session.specs.Feeding.{finished, lastTurn, sessionStart}
 use Rattle.session.specs.Pieces.{Feeds}
 use Rattle.session.specs.Station.{station}
@@ -63,7 +63,7 @@ use Rattle.session.proofs.Whole.{whole}
 -- a running core's turn is a step
 turn-at : (c : Core) (line : List ℕ) (stage : Stage) → stage ≡ Running → readLine (groupIn c) line .verdict ≡ Taken → turnBy stepping c line stage ≡ answered c (stepBy c line)
 unfolding turnBy
-turn-at c line stage e t = rw e (hears-taken (stepping c) c (saidBy c line) t)
+turn-at c line stage e t = rw e (hears-taken (stepping c) c (spokenIn c line) t)
 
 pub turn-steps : (c : Core) (line : List ℕ) → c .stage ≡ Running → readLine (groupIn c) line .verdict ≡ Taken → turn c line ≡ answered c (stepBy c line)
 turn-steps c line e t = turn-at c line (c .stage) e t

@@ -16,7 +16,7 @@ use Rattle.lines.specs.Writing.{bufferOf}
 use Rattle.session.specs.declared.feed.Fed.{Fed}
 use Rattle.session.specs.declared.feed.Session.{Session}
 use Rattle.fields.specs.Lines.{feedAt}
-use Rattle.session.specs.Feeding.{closed, fed, fedText, lineTurn}
+use Rattle.session.specs.Feeding.{lineDone, fed, fedText, lineTurn}
 use Rattle.session.specs.Pieces.{Feeds}
 use Rattle.session.specs.Pieces.Feeds.{none, more}
 use Rattle.session.specs.Repeat.{Run, runOn}
@@ -24,7 +24,7 @@ use Rattle.session.specs.Serving.{firstText}
 use Rattle.session.specs.Turn.{Turn}
 use Rattle.fields.proofs.Lines.{feed-line}
 use Rattle.session.proofs.Repeating.{run-goes, run-none, run-stays}
-use Rattle.session.proofs.Room.{closed-room, fed-holds, fed-line, front, front-take, short, text-line, text-none}
+use Rattle.session.proofs.Room.{done-room, fed-holds, fed-line, front, front-take, short, text-line, text-none}
 
 -- ONE RUN AFTER ANOTHER is a run
 pub feeds-then : {x y z : Session} {a b s t : List ℕ} → Feeds x a s y → Feeds y b t z → Feeds x (a ++ b) (s ++ t) z
@@ -57,7 +57,7 @@ module _ (x : Session) (piece buf : List ℕ) where
       (λ e. let j = eqb-true (feedAt piece) (length piece) e in rw (fed-holds x piece (length buf) j, text-none x piece j))
       (λ e.
       let j = eqb-false (feedAt piece) (length piece) e in
-      rw (fed-line x piece (length buf) j, text-line x piece j, closed-room x (feedAt piece + 1) (lineTurn x piece) (length buf) (rw (← text-line x piece j) h)))
+      rw (fed-line x piece (length buf) j, text-line x piece j, done-room x (feedAt piece + 1) (lineTurn x piece) (length buf) (rw (← text-line x piece j) h)))
 
   pub first-is : (f .wrote ≡ length t) × (bufferOf (fedText x piece) buf ≡ bufferOf t buf)
   first-is =
@@ -105,8 +105,8 @@ module _ (piece : List ℕ) (n : feedAt piece ≡ length piece → ⊥) where
 
   alone-fed : (x : Session) (room : ℕ) → fed x alone room ≡ fed x piece room
   alone-fed x room =
-      fed-line x alone room alone-not ∙ ap (λ (i : ℕ). closed x (i + 1) (lineTurn x alone) room) alone-feed
-      ∙ ap (λ (t : Turn). closed x (feedAt piece + 1) t room) (alone-turn x) ∙ sym (fed-line x piece room n)
+      fed-line x alone room alone-not ∙ ap (λ (i : ℕ). lineDone x (i + 1) (lineTurn x alone) room) alone-feed
+      ∙ ap (λ (t : Turn). lineDone x (feedAt piece + 1) t room) (alone-turn x) ∙ sym (fed-line x piece room n)
 
   alone-text : (x : Session) (room : ℕ) → firstText x alone room ≡ firstText x piece room
   unfolding firstText
@@ -138,7 +138,7 @@ module _ (x : Session) (piece : List ℕ) where
       line : (feedAt piece ≡ length piece → ⊥) → length (fedText x piece) ≤ length buf → Exact (length buf)
       line n h =
           let l : length (lineTurn x piece .text) ≤ length buf = rw (← text-line x piece n) h in
-          let k : fed x piece (length buf) .took ≡ feedAt piece + 1 = ap (λ (r : Fed). r .took) (fed-line x piece (length buf) n ∙ closed-room x (feedAt piece + 1) (lineTurn x piece) (length buf) l) in
+          let k : fed x piece (length buf) .took ≡ feedAt piece + 1 = ap (λ (r : Fed). r .took) (fed-line x piece (length buf) n ∙ done-room x (feedAt piece + 1) (lineTurn x piece) (length buf) l) in
           let a = taken-all x (take (feedAt piece + 1) piece) buf (ap (λ (r : Fed). r .took) (alone-fed piece n x (length buf)) ∙ k ∙ sym (alone-length piece n)) in
           rw k (rw (alone-fed piece n x (length buf), alone-text piece n x (length buf)) at a)
 

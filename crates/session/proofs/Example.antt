@@ -54,12 +54,86 @@ use Rattle.session.specs.Station.{closing, answers, station}
 use Rattle.session.specs.Turn.{coreStart, settlesTo, waitsFor, hears, sentText, verdictText, answerText, turnBy}
 use Rattle.session.proofs.Whole.{whole}
 
+-- the definitions that the session opens, by what they are about
+-- binary64 and its bits
+unfoldable float-computes : Unit {0}
+unfolding lt le eq add sub mul div ofInt ofBits toBits fits bitsOf floatOf sameFloat
+float-computes = tt
+
+-- settings, ranges of floats, masks
+unfoldable unit-computes : Unit {0}
+unfolding ones every pick groupFits runsFit numbersFit estimateFits sameEstimate stateFits targetsFit
+unit-computes = tt
+
+-- digests and votes in range
+unfoldable digest-computes : Unit {0}
+unfolding legal same rank unrank full least seatFits seatsFit votesFit
+digest-computes = tt
+
+-- the decision
+unfoldable judge-computes : Unit {0}
+unfolding tallyOf strengthOf largest otherThan outsider missingOf heldOff rivalOf settledAt settled decision
+judge-computes = tt
+
+-- 'Computing'
+unfoldable filter-computes : Unit {0}
+unfolding atMost limited grown measured gain moved shrunk outcome tab place runsAfter newState
+filter-computes = tt
+
+-- total and targets
+unfoldable share-computes : Unit {0}
+unfolding addAll total sumOf weightSum target share targets setPoints
+share-computes = tt
+
+-- digits and fields
+unfoldable field-computes : Unit {0}
+unfolding allVisible isCertificate digitOf charOf valueFrom fixedIn fixed decimalIn decimal Fields.plain decimalSaid factorSaid saidBy
+field-computes = tt
+
+-- spellings and texts
+unfoldable text-computes : Unit {0}
+unfolding pointed spelled Fields.fits judge readField written until laterFields tabbed linesOf
+text-computes = tt
+
+-- messages in range, and what they lead to
+unfoldable plan-computes : Unit {0}
+unfolding headFits carried plain messageFits readingsFit afterwards collected sameRound planReading planAdvert inEnds planEnds inFloor planFloor possessed chosenPlan judged
+plan-computes = tt
+
+-- reading
+unfoldable read-computes : Unit {0}
+unfolding column joined readAll readValues readText readLine kindOf quantityAt limitFor countOf headOf messageWith kindIs
+read-computes = tt
+
+-- the settings lines, and writing
+unfoldable settle-computes : Unit {0}
+unfolding started settleWeight settleFactor settleCertificate settleRun isKind settleText settleLine headValues valuesOf lineOf spellLine refusalLine
+settle-computes = tt
+
+-- a start and a step
+unfoldable step-computes : Unit {0}
+unfolding phaseFits controllerFits startEstimates startOf runBit applied sentMessage judgedIn judgedPlan planned inputsFit stepped
+step-computes = tt
+
+-- the program
+unfoldable turn-computes : Unit {0}
+unfolding bytesOf sessionInput sessionOutput closing answers coreStart settlesTo waitsFor hears sentText verdictText answerText turnBy
+turn-computes = tt
+
+unfoldable values-compute : Unit {0}
+unfolding float-computes unit-computes digest-computes judge-computes filter-computes share-computes
+values-compute = tt
+
+unfoldable lines-compute : Unit {0}
+unfolding field-computes text-computes plan-computes read-computes settle-computes step-computes turn-computes
+lines-compute = tt
+
 -- every byte that comes out, for every byte that goes in
-pub session : station sessionInput ≡ sessionOutput
-unfolding bytesOf sessionInput sessionOutput linesOf closing answers coreStart settlesTo waitsFor hears sentText verdictText answerText turnBy ones lt le eq add sub mul div ofInt ofBits toBits fits every pick groupFits runsFit numbersFit bitsOf floatOf sameFloat estimateFits sameEstimate stateFits targetsFit legal same rank unrank full least seatFits seatsFit votesFit tallyOf strengthOf largest otherThan outsider missingOf heldOff rivalOf settledAt settled decision atMost limited grown measured gain moved shrunk outcome tab place runsAfter addAll total sumOf weightSum target share targets newState setPoints allVisible isCertificate digitOf charOf valueFrom fixedIn fixed decimalIn decimal Fields.plain decimalSaid factorSaid saidBy pointed spelled Fields.fits judge readField written until laterFields tabbed headFits carried plain messageFits readingsFit afterwards collected sameRound planReading planAdvert inEnds planEnds inFloor planFloor possessed chosenPlan judged column joined readAll readValues readText readLine started settleWeight settleFactor settleCertificate settleRun isKind settleText settleLine kindOf quantityAt limitFor countOf headOf messageWith kindIs headValues valuesOf lineOf spellLine refusalLine phaseFits controllerFits startEstimates startOf runBit applied sentMessage judgedIn judgedPlan planned inputsFit stepped
-session = refl
+pub session-bytes : station sessionInput ≡ sessionOutput
+unfolding values-compute lines-compute
+session-bytes = refl
 
 -- so these bytes are written for those, however they are cut into pieces and whatever buffers are lent
 pub session-fed : {out : List ℕ} {y : Session} → Feeds sessionStart sessionInput out y → (buf : List ℕ) → lineTop ≤ length buf
     → out ++ take (finished y (length buf) .wrote) (bufferOf (lastTurn y .text) buf) ≡ sessionOutput
-session-fed f buf h = whole f buf h ∙ session
+session-fed f buf h = whole f buf h ∙ session-bytes

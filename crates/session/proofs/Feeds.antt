@@ -19,15 +19,15 @@ use Rattle.session.specs.declared.feed.Session.{Session}
 use Rattle.session.specs.declared.stage.Core.{Core}
 use Rattle.session.specs.declared.stage.Stage.the-variants.{Ended}
 use Rattle.session.specs.declared.turn.Turned.{Turned}
-use Rattle.session.specs.Feeding.{Heard, Wrote, advancing, closed, shut, fed, fedText, finished, holding, lastOf, lastTurn, lineTurn}
+use Rattle.session.specs.Feeding.{Heard, Wrote, advancing, lineDone, lineDoneBy, fed, fedText, finished, holding, lastOf, lastTurn, lineTurn}
 use Rattle.session.specs.Turn.{Turn, settledIn, turnBy, verdictText}
 use Rattle.session.proofs.Room.{fed-holds, text-none, fed-line, text-line}
 use Rattle.session.proofs.Writes.{Puts, puts-none, puts-same}
 
 -- closing by what was written
-shut-closed : (x : Session) (end : ℕ) (t : Turn) (r : Turned) (before after : List ℕ) → Wrote t before after r → shut x end (r .next) (r .written) ≡ closed x end t (length before)
-unfolding shut pick
-shut-closed x end t r before after w = by-lt (length before) (length (t .text))
+done-by : (x : Session) (end : ℕ) (t : Turn) (r : Turned) (before after : List ℕ) → Wrote t before after r → lineDoneBy x end (r .next) (r .written) ≡ lineDone x end t (length before)
+unfolding lineDoneBy pick
+done-by x end t r before after w = by-lt (length before) (length (t .text))
     (λ h. let e = lt-ltb (length before) (length (t .text)) h in rw (w .0, w .1, e))
     (λ h. let e = le-ltb (length before) (length (t .text)) h in rw (w .0, w .1, e))
 
@@ -43,19 +43,19 @@ module _ (x : Session) (input : List ℕ) (n : ℕ) (e : n ≡ feedAt input) whe
   feed-heard l h k = subst (λ i. Heard (x .core) (lineIn (x .carry) (take (i + 1) input)) l (x .core .stage)) (sym e) (h (λ q. k (e ∙ q)))
 
   pub feed-turned : (r : Fed) (t : Turned) (before after : List ℕ) → (n ≡ length input → ⊥)
-      → Wrote (turnBy advancing (x .core) (lineIn (x .carry) (take (n + 1) input)) (x .core .stage)) before after t → r ≡ shut x (n + 1) (t .next) (t .written)
+      → Wrote (turnBy advancing (x .core) (lineIn (x .carry) (take (n + 1) input)) (x .core .stage)) before after t → r ≡ lineDoneBy x (n + 1) (t .next) (t .written)
       → (r ≡ fed x input (length before)) × (after ≡ bufferOf (fedText x input) before)
   feed-turned r t before after k w h =
       let j : feedAt input ≡ length input → ⊥ = λ q. k (e ∙ q) in
       let v : Wrote (lineTurn x input) before after t = subst (λ i. Wrote (turnBy advancing (x .core) (lineIn (x .carry) (take (i + 1) input)) (x .core .stage)) before after t) e w in (
-        h ∙ ap (λ i. shut x (i + 1) (t .next) (t .written)) e ∙ shut-closed x (feedAt input + 1) (lineTurn x input) t before after v ∙ sym (fed-line x input (length before) j),
+        h ∙ ap (λ i. lineDoneBy x (i + 1) (t .next) (t .written)) e ∙ done-by x (feedAt input + 1) (lineTurn x input) t before after v ∙ sym (fed-line x input (length before) j),
         v .2 ∙ ap (λ u. bufferOf u before) (sym (text-line x input j)),
       )
 
 -- the end of the input
-pub finish-shut : (x : Session) (n : Core) (v : Verdict) (w : Written) (r : Fed) (before after : List ℕ) → n ≡ settledIn (x .core) Ended (x .core .settling)
-    → v ≡ lastOf (x .core .settling) (x .carry .len) (x .core .stage) → Puts (verdictText v) before after w → r ≡ shut x 0 n w
+pub finish-done : (x : Session) (n : Core) (v : Verdict) (w : Written) (r : Fed) (before after : List ℕ) → n ≡ settledIn (x .core) Ended (x .core .settling)
+    → v ≡ lastOf (x .core .settling) (x .carry .len) (x .core .stage) → Puts (verdictText v) before after w → r ≡ lineDoneBy x 0 n w
     → (r ≡ finished x (length before)) × (after ≡ bufferOf (lastTurn x .text) before)
-finish-shut x n v w r before after e f p h =
+finish-done x n v w r before after e f p h =
     let q : Puts (lastTurn x .text) before after w = puts-same before (ap verdictText (sym f)) p in
-    (h ∙ shut-closed x 0 (lastTurn x) (record { next = n; written = w }) before after (e, q .0, q .1), q .1)
+    (h ∙ done-by x 0 (lastTurn x) (record { next = n; written = w }) before after (e, q .0, q .1), q .1)

@@ -12,9 +12,9 @@ use Rattle.units.specs.Limits.{runsTop}
 use Rattle.units.specs.Settings.{numbersFit}
 use Rattle.units.proofs.Every.{and-left, and-right}
 use Rattle.message.specs.declared.head.Head.{Head}
-use Rattle.message.specs.declared.head.Head.the-variants.{Reading, Query, Reply, Advert, Update, Vote, Setpoints, Due, CollectingEnds, VotingEnds, Floor, Start, Refused as HeadRefused}
 use Rattle.message.specs.declared.settings.Settings.{Settings}
 use Rattle.message.specs.declared.value.Message.{Message}
+use Rattle.message.proofs.Views.{by-kind, start-seen}
 use Rattle.message.specs.Head.{headFits}
 use Rattle.message.specs.Message.{messageFits}
 use Rattle.message.specs.Settings.{certificateAt, sixteen, settingsFit}
@@ -35,7 +35,7 @@ use Rattle.session.specs.Turn.{Turn, numbersIn, groupIn, coreStart, sett
 -- AT THE START nothing is read
 pub start-fits : CoreFits coreStart
 unfolding coreStart
-start-fits = record { lines = []; led = λ rest. refl }
+start-fits = record { lines = []; reads = λ rest. refl }
 
 -- WHILE THE SETTINGS COME
 module _ (st : Settling) (line : List ℕ) where
@@ -43,16 +43,16 @@ module _ (st : Settling) (line : List ℕ) where
   unfolding settleAll
   one-more rest = refl
 
-  led-on : (r : Reached st) (rest : List (List ℕ))
+  reads-on : (r : Reached st) (rest : List (List ℕ))
       → settleAll (r .lines ++ (line ∷ []) ++ rest) started ≡ settleOn (settleAll rest) (settleLine st line .next) (settleLine st line .answer)
-  led-on r rest = rw append-assoc (r .led (line ∷ rest) ∙ one-more rest)
+  reads-on r rest = rw append-assoc (r .reads (line ∷ rest) ∙ one-more rest)
 
   more-reached : Reached st → settleLine st line .answer ≡ More → Reached (settleLine st line .next)
-  more-reached r e = record { lines = r .lines ++ (line ∷ []); led = λ rest. led-on r rest ∙ rw e }
+  more-reached r e = record { lines = r .lines ++ (line ∷ []); reads = λ rest. reads-on r rest ∙ rw e }
 
   -- whole settings are in range
   whole-fits : Reached st → settleLine st line .answer ≡ Whole → settingsFit (settleLine st line .next .settings) ≡ true
-  whole-fits r e = settings-only (r .lines ++ (line ∷ []) ++ []) (settleLine st line .next) (led-on r [] ∙ rw e) .fits
+  whole-fits r e = settings-only (r .lines ++ (line ∷ []) ++ []) (settleLine st line .next) (reads-on r [] ∙ rw e) .fits
 
 settings-numbers : (s : Settings) → settingsFit s ≡ true → numbersFit (s .numbers) ≡ true
 unfolding settingsFit
@@ -71,20 +71,10 @@ kept c e f = rw e f
 
 waits-fits : (c : Core) (head : Head) → headFits (groupIn c) head ≡ true → c .stage ≡ Waiting → numbersFit (numbersIn c) ≡ true → CoreFits (waitsFor c head .next)
 unfolding waitsFor headFits
-waits-fits c (Reading label run raw) h e f = kept c e f
-waits-fits c (Query sender label mask) h e f = kept c e f
-waits-fits c (Reply sender label mask) h e f = kept c e f
-waits-fits c (Advert sender state) h e f = kept c e f
-waits-fits c (Update sender state) h e f = kept c e f
-waits-fits c (Vote sender label digest) h e f = kept c e f
-waits-fits c (Setpoints sender label digest) h e f = kept c e f
-waits-fits c (Due label) h e f = kept c e f
-waits-fits c (CollectingEnds label) h e f = kept c e f
-waits-fits c (VotingEnds label) h e f = kept c e f
-waits-fits c (Floor label) h e f = kept c e f
-waits-fits c (Start own floor) h e f =
-    (f, controller-start (numbersIn c) own floor f (and-left (ltb own (groupIn c .g)) (floorFits floor) h) (and-right (ltb own (groupIn c .g)) (floorFits floor) h))
-waits-fits c (HeadRefused number) h e f = kept c e f
+waits-fits c head =
+    by-kind (λ (h : Head). headFits (groupIn c) h ≡ true → c .stage ≡ Waiting → numbersFit (numbersIn c) ≡ true → CoreFits (waitsFor c h .next))
+    (λ v h e f. (f, controller-start (numbersIn c) (v .0) (v .1) f (and-left (ltb (v .0) (groupIn c .g)) (floorFits (v .1)) h) (and-right (ltb (v .0) (groupIn c .g)) (floorFits (v .1)) h)))
+    (λ k n. rw n (λ h e f. kept c e f)) (start-seen head)
 
 -- A MESSAGE HEARD
 hears-fits : (c : Core) (line : List ℕ) (go : Message → Turn) (v : Verdict) → readLine (groupIn c) line .verdict ≡ v → CoreFits c

@@ -57,7 +57,7 @@ module _ (x : Session) (input : List ℕ) (room : ℕ) where
   unfolding handled handledText
   handled-exact = run-exact callsOn serveRun (λ y. y) (λ y i n e. served-exact y i n) (length input) x input room
 
-  pub handled-text : handled x input room .wrote ≡ length (handledText x input room)
+  handled-text : handled x input room .wrote ≡ length (handledText x input room)
   unfolding handled handledText
   handled-text = refl
 

@@ -38,7 +38,7 @@ line-parts l e =
     let n : feedAt l + 1 ≡ length l = eqb-true (feedAt l + 1) (length l) e in
     feed-split l (λ q. omega arith) ∙ ap (λ (t : List ℕ). until lineFeed l ++ (lineFeed ∷ t)) (ap (λ (k : ℕ). drop k l) n ∙ drop-length l)
 
-pub lines-of : (ls : List (List ℕ)) → ((l : List ℕ) → List·Memᴰ l ls → ended l ≡ true) → linesOf (inputOf ls) ≡ ls
+lines-of : (ls : List (List ℕ)) → ((l : List ℕ) → List·Memᴰ l ls → ended l ≡ true) → linesOf (inputOf ls) ≡ ls
 unfolding inputOf
 lines-of [] f = lines-none
 lines-of (l ∷ ls) f =

@@ -14,9 +14,9 @@ use Rattle.units.specs.declared.settings.Numbers.{Numbers}
 use Rattle.units.specs.Limits.{lineTop}
 use Rattle.units.specs.Pick.{pick}
 use Rattle.message.specs.declared.head.Head.{Head}
-use Rattle.message.specs.declared.head.Head.the-variants.{Reading, Query, Reply, Advert, Update, Vote, Setpoints, Due, CollectingEnds, VotingEnds, Floor, Start, Refused as HeadRefused}
 use Rattle.message.specs.declared.value.Message.{Message}
 use Rattle.message.specs.Message.{messageFits}
+use Rattle.message.proofs.Views.{by-kind, start-seen}
 use Rattle.plan.specs.declared.planned.Sent.{Sent}
 use Rattle.plan.specs.declared.planned.Sent.the-variants.{Nothing, One}
 use Rattle.fields.proofs.Cases.{by-test, by-lt}
@@ -37,7 +37,7 @@ use Rattle.session.specs.declared.feed.Session.{Session}
 use Rattle.session.specs.declared.stage.Core.{Core}
 use Rattle.session.specs.declared.stage.Stage.{Stage}
 use Rattle.session.specs.declared.stage.Stage.the-variants.{Settling as AtSettings, Waiting, Running, Ended}
-use Rattle.session.specs.Feeding.{fitText, restText, putText, advancing, lineTurn, closed, holding, fed, fedText, finished, lastTurn}
+use Rattle.session.specs.Feeding.{fitText, restText, putText, advancing, lineTurn, lineDone, holding, fed, fedText, finished, lastTurn}
 use Rattle.session.specs.Turn.{Turn, groupIn, settlesTo, waitsFor, hears, verdictText, turnBy}
 use Rattle.session.proofs.Both.{puts-room, puts-short}
 
@@ -77,19 +77,7 @@ closed-short = let a = refusal-room Closed in omega arith
 
 waits-short : (c : Core) (head : Head) → length (waitsFor c head .text) ≤ 2 * lineTop
 unfolding waitsFor
-waits-short c (Reading label run raw) = closed-short
-waits-short c (Query sender label mask) = closed-short
-waits-short c (Reply sender label mask) = closed-short
-waits-short c (Advert sender state) = closed-short
-waits-short c (Update sender state) = closed-short
-waits-short c (Vote sender label digest) = closed-short
-waits-short c (Setpoints sender label digest) = closed-short
-waits-short c (Due label) = closed-short
-waits-short c (CollectingEnds label) = closed-short
-waits-short c (VotingEnds label) = closed-short
-waits-short c (Floor label) = closed-short
-waits-short c (Start own floor) = omega arith
-waits-short c (HeadRefused number) = closed-short
+waits-short c head = by-kind (λ (h : Head). length (waitsFor c h .text) ≤ 2 * lineTop) (λ v. omega arith) (λ h n. rw n closed-short) (start-seen head)
 
 hears-short : (go : Message → Turn) (c : Core) (a : Message) (v : Verdict) → length (go a .text) ≤ 2 * lineTop → length (hears go c a v .text) ≤ 2 * lineTop
 unfolding hears
@@ -119,7 +107,7 @@ module _ (x : Session) (piece : List ℕ) where
   text-none e = rw (eq-eqb (feedAt piece) (length piece) e)
 
   -- with one, and room
-  pub fed-line : (room : ℕ) → (feedAt piece ≡ length piece → ⊥) → fed x piece room ≡ closed x (feedAt piece + 1) (lineTurn x piece) room
+  pub fed-line : (room : ℕ) → (feedAt piece ≡ length piece → ⊥) → fed x piece room ≡ lineDone x (feedAt piece + 1) (lineTurn x piece) room
   unfolding fed pick
   fed-line room n = rw (ne-eqb (feedAt piece) (length piece) n)
 
@@ -128,13 +116,13 @@ module _ (x : Session) (piece : List ℕ) where
   text-line n = rw (ne-eqb (feedAt piece) (length piece) n)
 
 module _ (x : Session) (end : ℕ) (t : Turn) (room : ℕ) where
-  pub closed-room : length (t .text) ≤ room → closed x end t room ≡ record { next = record { core = t .next; carry = record { len = 0; bytes = x .carry .bytes } }; took = end; wrote = length (t .text); verdict = Taken }
+  pub done-room : length (t .text) ≤ room → lineDone x end t room ≡ record { next = record { core = t .next; carry = record { len = 0; bytes = x .carry .bytes } }; took = end; wrote = length (t .text); verdict = Taken }
   unfolding pick
-  closed-room h = rw (le-ltb room (length (t .text)) h)
+  done-room h = rw (le-ltb room (length (t .text)) h)
 
-  pub closed-none : room < length (t .text) → closed x end t room ≡ record { next = x; took = 0; wrote = 0; verdict = Refused Room }
+  pub done-none : room < length (t .text) → lineDone x end t room ≡ record { next = x; took = 0; wrote = 0; verdict = Refused Room }
   unfolding pick
-  closed-none h = rw (lt-ltb room (length (t .text)) h)
+  done-none h = rw (lt-ltb room (length (t .text)) h)
 
 -- a line put at the front of a buffer
 pub front : (bytes buf : List ℕ) → length bytes ≤ length buf → bufferOf bytes buf ≡ bytes ++ drop (length bytes) buf
@@ -153,7 +141,7 @@ room x piece lent h =
     (λ e. rw (fed-holds x piece lent (eqb-true (feedAt piece) (length piece) e)))
     (λ e.
     let a = line-short x piece in
-    let l : length (lineTurn x piece .text) ≤ lent = omega arith in rw (fed-line x piece lent (eqb-false (feedAt piece) (length piece) e), closed-room x (feedAt piece + 1) (lineTurn x piece) lent l))
+    let l : length (lineTurn x piece .text) ≤ lent = omega arith in rw (fed-line x piece lent (eqb-false (feedAt piece) (length piece) e), done-room x (feedAt piece + 1) (lineTurn x piece) lent l))
 
 -- and then a call with bytes to take takes some
 pub progress : (x : Session) (piece : List ℕ) (lent : ℕ) → 2 * lineTop ≤ lent → 1 ≤ length piece → 1 ≤ fed x piece lent .took
@@ -163,7 +151,7 @@ progress x piece lent h k =
     (λ e.
     let a = line-short x piece in
     let l : length (lineTurn x piece .text) ≤ lent = omega arith in
-    rw (fed-line x piece lent (eqb-false (feedAt piece) (length piece) e), closed-room x (feedAt piece + 1) (lineTurn x piece) lent l) (omega arith))
+    rw (fed-line x piece lent (eqb-false (feedAt piece) (length piece) e), done-room x (feedAt piece + 1) (lineTurn x piece) lent l) (omega arith))
 
 -- 16: WITH TOO LITTLE ROOM nothing is taken, written or changed, the lent buffer with it
 pub short : (x : Session) (piece buf : List ℕ) → length buf < length (fedText x piece)
@@ -174,7 +162,7 @@ short x piece buf h =
     (λ e.
     let n = eqb-false (feedAt piece) (length piece) e in
     let z = ap {B = ℕ} (λ (l : List ℕ). length l) (text-line x piece n) in
-    (fed-line x piece (length buf) n ∙ closed-none x (feedAt piece + 1) (lineTurn x piece) (length buf) (omega arith), front-none (fedText x piece) buf h))
+    (fed-line x piece (length buf) n ∙ done-none x (feedAt piece + 1) (lineTurn x piece) (length buf) (omega arith), front-none (fedText x piece) buf h))
 
 -- no call takes more than it was offered
 pub took-few : (x : Session) (piece : List ℕ) (lent : ℕ) → fed x piece lent .took ≤ length piece
@@ -185,21 +173,21 @@ took-few x piece lent =
     let n = eqb-false (feedAt piece) (length piece) e in
     rw (fed-line x piece lent n)
     (by-lt lent (length (lineTurn x piece .text))
-    (λ l. rw (closed-none x (feedAt piece + 1) (lineTurn x piece) lent l) (omega arith))
-    (λ l. rw (closed-room x (feedAt piece + 1) (lineTurn x piece) lent l) (within n (until-short 10 piece)))))
+    (λ l. rw (done-none x (feedAt piece + 1) (lineTurn x piece) lent l) (omega arith))
+    (λ l. rw (done-room x (feedAt piece + 1) (lineTurn x piece) lent l) (within n (until-short 10 piece)))))
   where
     within : (feedAt piece ≡ length piece → ⊥) → feedAt piece ≤ length piece → feedAt piece + 1 ≤ length piece
     within n h = by-lt (feedAt piece) (length piece) (λ l. omega arith) (λ l. absurd (n (omega arith)))
 
 -- nor writes more than there is room for
-closed-few : (x : Session) (end : ℕ) (t : Turn) (lent : ℕ) → closed x end t lent .wrote ≤ lent
-closed-few x end t lent = by-lt lent (length (t .text)) (λ l. rw (closed-none x end t lent l) (omega arith)) (λ l. rw (closed-room x end t lent l) l)
+done-few : (x : Session) (end : ℕ) (t : Turn) (lent : ℕ) → lineDone x end t lent .wrote ≤ lent
+done-few x end t lent = by-lt lent (length (t .text)) (λ l. rw (done-none x end t lent l) (omega arith)) (λ l. rw (done-room x end t lent l) l)
 
 pub wrote-few : (x : Session) (piece : List ℕ) (lent : ℕ) → fed x piece lent .wrote ≤ lent
 wrote-few x piece lent =
     by-test (eqb (feedAt piece) (length piece))
     (λ e. rw (fed-holds x piece lent (eqb-true (feedAt piece) (length piece) e)) (omega arith))
-    (λ e. rw (fed-line x piece lent (eqb-false (feedAt piece) (length piece) e)) (closed-few x (feedAt piece + 1) (lineTurn x piece) lent))
+    (λ e. rw (fed-line x piece lent (eqb-false (feedAt piece) (length piece) e)) (done-few x (feedAt piece + 1) (lineTurn x piece) lent))
 
 -- the same of what a call answered
 module _ (x : Session) (piece : List ℕ) (lent : ℕ) (r : Fed) (e : r ≡ fed x piece lent) where
@@ -210,7 +198,7 @@ module _ (x : Session) (piece : List ℕ) (lent : ℕ) (r : Fed) (e : r ≡ fed 
   call-wrote = rw e (wrote-few x piece lent)
 
 pub finish-wrote : (x : Session) (lent : ℕ) (r : Fed) → r ≡ finished x lent → r .wrote ≤ lent
-finish-wrote x lent r e = rw e (closed-few x 0 (lastTurn x) lent)
+finish-wrote x lent r e = rw e (done-few x 0 (lastTurn x) lent)
 
 -- a buffer keeps its length
 pub buffer-length : (bytes buf : List ℕ) → length (bufferOf bytes buf) ≡ length buf

@@ -31,7 +31,7 @@ use Rattle.session.specs.declared.stage.Stage.{Stage}
 use Rattle.session.specs.declared.stage.Stage.the-variants.{Settling as AtSettings, Waiting, Running, Ended}
 use Rattle.fields.specs.Cut.{emptied, lineIn}
 use Rattle.fields.specs.Lines.{feedAt}
-use Rattle.session.specs.Feeding.{advancing, answerPut, closed, fed, fedText, lineTurn, putText}
+use Rattle.session.specs.Feeding.{advancing, answerPut, lineDone, fed, fedText, lineTurn, putText}
 use Rattle.session.specs.Pieces.{Feeds}
 use Rattle.session.specs.Repeat.{Run, runOn}
 use Rattle.session.specs.Serving.{firstText, goesOn, isRunning, lineAnswer, lineRun, mayRun, planLine, ran, ranOn, runAfter, served, servedText}
@@ -40,7 +40,7 @@ use Rattle.session.proofs.Adding.{goes-room, goes-whole, line-moves}
 use Rattle.session.proofs.Both.{mid-rest, put-rest}
 use Rattle.session.proofs.Exact.{fed-exact, feeds-then, first-all, first-fits, first-is, first-wrote, run-exact}
 use Rattle.session.proofs.Repeating.{run-few}
-use Rattle.session.proofs.Room.{buffer-length, call-wrote, closed-room, fed-holds, fed-line, front, progress, put-short, short, text-line, text-none, took-few, wrote-few}
+use Rattle.session.proofs.Room.{buffer-length, call-wrote, done-room, fed-holds, fed-line, front, progress, put-short, short, text-line, text-none, took-few, wrote-few}
 
 -- A RUN takes no more than there is, and writes no more than there is room for
 module _ (x : Session) (input : List ℕ) (room : ℕ) where
@@ -218,7 +218,7 @@ module _ (c : Core) (held : Carry) where
       let n : feedAt piece ≡ length piece → ⊥ = λ q. absurd (omega arith) in
       let l = line-is k piece room in
       let F : fed x piece room ≡ record { next = at-line c held (r .next); took = r .took; wrote = length (r .text); verdict = Taken } =
-      fed-line x piece room n ∙ ap (λ (t : Turn). closed x (feedAt piece + 1) t room) l ∙ closed-room x (feedAt piece + 1) (record { next = runningWith c (r .next); text = r .text }) room (m .fits) in
+      fed-line x piece room n ∙ ap (λ (t : Turn). lineDone x (feedAt piece + 1) t room) l ∙ done-room x (feedAt piece + 1) (record { next = runningWith c (r .next); text = r .text }) room (m .fits) in
       let T : fedText x piece ≡ r .text = text-line x piece n ∙ ap (λ (t : Turn). t .text) l in
       let t : firstText x piece room ≡ r .text = first-all x piece room (rw T (m .fits)) ∙ T in
       rw (F, t) at (fed-exact x piece room)

@@ -1,11 +1,19 @@
 -- The cases of a turn, as the code takes them. Assumes nothing.
 use Prim.Native.Nat.{ℕ}
-use mathlib.Core.Path.{_≡_}
-use mathlib.Core.List.{List}
+use mathlib.Core.Path.{_≡_, refl}
+use mathlib.Core.List.{List, [], _∷_}
+use mathlib.Core.Option.{none}
+use denote.Enum.Declared.{tagOf}
+use types.Run.{OneOf}
 use Rattle.units.specs.declared.refusal.Refusal.{Refusal}
+use Rattle.units.specs.declared.refusal.Refusal.the-variants.{Closed}
 use Rattle.units.specs.declared.refusal.Verdict.{Verdict}
 use Rattle.units.specs.declared.refusal.Verdict.the-variants.{Taken, Refused}
+use Rattle.message.specs.declared.head.Head.{Head}
 use Rattle.message.specs.declared.value.Message.{Message}
+use Rattle.message.specs.View.{asStart}
+use Rattle.message.proofs.head.Head.{the-type}
+use Rattle.message.proofs.Views.{start-seen, unlisted}
 use Rattle.lines.specs.declared.read.Line.{Line}
 use Rattle.lines.specs.declared.settle.Answer.{Answer as Told}
 use Rattle.lines.specs.declared.settle.Answer.the-variants.{More, Whole, Refused as NoSettings}
@@ -31,6 +39,17 @@ module _ (c : Core) (next : Settling) {a : Told} where
   pub settles-refused : (why : Refusal) → a ≡ NoSettings why → settlesTo c next a ≡ refusing (settledIn c Ended next) why
   unfolding settlesTo
   settles-refused why e = rw e
+
+-- before the first B every kind but B is 9; the code's other arm is told the tags of all but B
+pub waits-other : (c : Core) (head : Head) → asStart head ≡ none → waitsFor c head ≡ refusing c Closed
+unfolding waitsFor
+waits-other c head n = rw n
+
+abbrev unstarting : List ℕ
+unstarting = 0 ∷ 1 ∷ 2 ∷ 3 ∷ 4 ∷ 5 ∷ 6 ∷ 7 ∷ 8 ∷ 9 ∷ 10 ∷ 12 ∷ []
+
+pub waits-unlisted : (c : Core) (head : Head) → OneOf unstarting (tagOf the-type head) → waitsFor c head ≡ refusing c Closed
+waits-unlisted c head o = waits-other c head (unlisted unstarting 11 (λ v. refl) tt (start-seen head) o)
 
 module _ (go : Message → Turn) (c : Core) (a : Message) {v : Verdict} where
   pub hears-taken : v ≡ Taken → hears go c a v ≡ go a

@@ -14,8 +14,8 @@ use Rattle.units.specs.Refusal.{numberOf}
 use Rattle.units.specs.Within.{within}
 use Rattle.units.proofs.Every.{and-right}
 use Rattle.message.specs.declared.head.Head.{Head}
-use Rattle.message.specs.declared.head.Head.the-variants.{Reading, Query, Reply, Advert, Update, Vote, Setpoints, Due, CollectingEnds, VotingEnds, Floor, Start, Refused as HeadRefused}
 use Rattle.message.specs.declared.value.Message.{Message}
+use Rattle.message.proofs.Views.{by-kind, start-seen}
 use Rattle.lines.specs.Reading.{readLine}
 use Rattle.lines.specs.Writing.{refusalLine}
 use Rattle.lines.proofs.Refusing.{reader-refuses}
@@ -25,7 +25,7 @@ use Rattle.controller_laws.proofs.Refusals.{not-taken, same-why, refused-keeps}
 use Rattle.session.specs.declared.stage.Core.{Core}
 use Rattle.session.specs.declared.stage.Stage.{Stage}
 use Rattle.session.specs.declared.stage.Stage.the-variants.{Settling as AtSettings, Waiting, Running, Ended}
-use Rattle.session.specs.Demand.{waitVerdict, heardVerdict, saidBy, stepBy, verdictAt, verdictOf}
+use Rattle.session.specs.Demand.{waitVerdict, heardVerdict, spokenIn, stepBy, verdictAt, verdictOf}
 use Rattle.session.specs.Turn.{Turn, numbersIn, groupIn, runningWith, refusing, waitsFor, hears, sentText, verdictText, answerText, turnBy, stepping, turn}
 
 -- THE READER'S REFUSALS, 1 to 6, end no round
@@ -38,19 +38,8 @@ reader-ends-none s line why e = early-ends-none why (reader-refuses s line why e
 -- A REFUSAL THAT ENDS NO ROUND leads to its X and nothing else
 wait-refused : (c : Core) (head : Head) (why : Refusal) → waitVerdict head ≡ Refused why → waitsFor c head ≡ refusing c why
 unfolding waitVerdict waitsFor
-wait-refused c (Reading label run raw) why e = ap (refusing c) (same-why e)
-wait-refused c (Query sender label mask) why e = ap (refusing c) (same-why e)
-wait-refused c (Reply sender label mask) why e = ap (refusing c) (same-why e)
-wait-refused c (Advert sender state) why e = ap (refusing c) (same-why e)
-wait-refused c (Update sender state) why e = ap (refusing c) (same-why e)
-wait-refused c (Vote sender label digest) why e = ap (refusing c) (same-why e)
-wait-refused c (Setpoints sender label digest) why e = ap (refusing c) (same-why e)
-wait-refused c (Due label) why e = ap (refusing c) (same-why e)
-wait-refused c (CollectingEnds label) why e = ap (refusing c) (same-why e)
-wait-refused c (VotingEnds label) why e = ap (refusing c) (same-why e)
-wait-refused c (Floor label) why e = ap (refusing c) (same-why e)
-wait-refused c (Start own floor) why e = not-taken e
-wait-refused c (HeadRefused number) why e = ap (refusing c) (same-why e)
+wait-refused c head why =
+    by-kind (λ (h : Head). waitVerdict h ≡ Refused why → waitsFor c h ≡ refusing c why) (λ v e. not-taken e) (λ h n. rw n (λ e. ap (refusing c) (same-why e))) (start-seen head)
 
 step-refused : (c : Core) (a : Message) (why : Refusal) → c .stage ≡ Running → ends why ≡ false → stepped (numbersIn c) (c .controller) a .verdict ≡ Refused why → stepping c a ≡ refusing c why
 unfolding answerText sentText verdictText
@@ -70,9 +59,9 @@ refused-at : (c : Core) (line : List ℕ) (why : Refusal) (stage : Stage) → c 
 unfolding turnBy verdictAt
 refused-at c line why AtSettings s past n e = absurd (past refl)
 refused-at c line why Waiting s past n e =
-    hears-refused c (saidBy c line) (λ a. waitsFor c (a .head)) (λ a. waitVerdict (a .head)) why (wait-refused c (saidBy c line .head) why) (readLine (groupIn c) line .verdict) e
+    hears-refused c (spokenIn c line) (λ a. waitsFor c (a .head)) (λ a. waitVerdict (a .head)) why (wait-refused c (spokenIn c line .head) why) (readLine (groupIn c) line .verdict) e
 refused-at c line why Running s past n e =
-    hears-refused c (saidBy c line) (stepping c) (λ a. stepped (numbersIn c) (c .controller) a .verdict) why (step-refused c (saidBy c line) why s n) (readLine (groupIn c) line .verdict) e
+    hears-refused c (spokenIn c line) (stepping c) (λ a. stepped (numbersIn c) (c .controller) a .verdict) why (step-refused c (spokenIn c line) why s n) (readLine (groupIn c) line .verdict) e
 refused-at c line why Ended s past n e = not-taken e
 
 pub refused-turn : (c : Core) (line : List ℕ) (why : Refusal) → (c .stage ≡ AtSettings → ⊥) → ends why ≡ false → verdictOf c line ≡ Refused why → turn c line ≡ refusing c why
@@ -81,35 +70,23 @@ refused-turn c line why past n e = refused-at c line why (c .stage) refl past n 
 -- 12, 13 AND 14 come from the step alone
 pub record Stepped (c : Core) (line : List ℕ) (why : Refusal) (t : Turn) : Type 0 where
   pub verdict : stepBy c line .verdict ≡ Refused why
-  pub turned : t ≡ stepping c (saidBy c line)
+  pub turned : t ≡ stepping c (spokenIn c line)
 
 not-both : {A : Type 0} (why : Refusal) → ends why ≡ true → ends why ≡ false → A
 not-both why p q = absurd (true≢false (sym p ∙ q))
 
 wait-before : (head : Head) (why : Refusal) → waitVerdict head ≡ Refused why → ends why ≡ false
 unfolding waitVerdict
-wait-before (Reading label run raw) why e = ap ends (sym (same-why e))
-wait-before (Query sender label mask) why e = ap ends (sym (same-why e))
-wait-before (Reply sender label mask) why e = ap ends (sym (same-why e))
-wait-before (Advert sender state) why e = ap ends (sym (same-why e))
-wait-before (Update sender state) why e = ap ends (sym (same-why e))
-wait-before (Vote sender label digest) why e = ap ends (sym (same-why e))
-wait-before (Setpoints sender label digest) why e = ap ends (sym (same-why e))
-wait-before (Due label) why e = ap ends (sym (same-why e))
-wait-before (CollectingEnds label) why e = ap ends (sym (same-why e))
-wait-before (VotingEnds label) why e = ap ends (sym (same-why e))
-wait-before (Floor label) why e = ap ends (sym (same-why e))
-wait-before (Start own floor) why e = not-taken e
-wait-before (HeadRefused number) why e = ap ends (sym (same-why e))
+wait-before head why = by-kind (λ (h : Head). waitVerdict h ≡ Refused why → ends why ≡ false) (λ v e. not-taken e) (λ h n. rw n (λ e. ap ends (sym (same-why e)))) (start-seen head)
 
 module _ (c : Core) (line : List ℕ) (why : Refusal) (n : ends why ≡ true) where
-  waiting-over : {A : Type 0} (v : Verdict) → readLine (groupIn c) line .verdict ≡ v → heardVerdict (λ a. waitVerdict (a .head)) (saidBy c line) v ≡ Refused why → A
+  waiting-over : {A : Type 0} (v : Verdict) → readLine (groupIn c) line .verdict ≡ v → heardVerdict (λ a. waitVerdict (a .head)) (spokenIn c line) v ≡ Refused why → A
   unfolding heardVerdict
-  waiting-over Taken r e = not-both why n (wait-before (saidBy c line .head) why e)
+  waiting-over Taken r e = not-both why n (wait-before (spokenIn c line .head) why e)
   waiting-over (Refused w) r e = not-both why n (reader-ends-none (groupIn c) line why (r ∙ e))
 
-  running-over : (v : Verdict) → readLine (groupIn c) line .verdict ≡ v → heardVerdict (λ a. stepped (numbersIn c) (c .controller) a .verdict) (saidBy c line) v ≡ Refused why
-      → Stepped c line why (hears (stepping c) c (saidBy c line) v)
+  running-over : (v : Verdict) → readLine (groupIn c) line .verdict ≡ v → heardVerdict (λ a. stepped (numbersIn c) (c .controller) a .verdict) (spokenIn c line) v ≡ Refused why
+      → Stepped c line why (hears (stepping c) c (spokenIn c line) v)
   unfolding heardVerdict hears
   running-over Taken r e = record { verdict = e; turned = refl }
   running-over (Refused w) r e = not-both why n (reader-ends-none (groupIn c) line why (r ∙ e))

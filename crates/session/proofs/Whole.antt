@@ -37,7 +37,7 @@ use Rattle.session.specs.Turn.{Turn, groupIn, numbersIn, settlesTo, hear
 use Rattle.session.proofs.Carrying.{line-same}
 use Rattle.session.proofs.Fits.{start-fits, turn-fits}
 use Rattle.session.proofs.Long.{read-last, settle-last}
-use Rattle.session.proofs.Room.{verdict-short, fed-holds, fed-line, text-line, closed-room, closed-none, front-take}
+use Rattle.session.proofs.Room.{verdict-short, fed-holds, fed-line, text-line, done-room, done-none, front-take}
 use Rattle.session.proofs.Same.{same-turn}
 
 -- at the start nothing is read
@@ -127,8 +127,8 @@ module _ (x : Session) (p piece : List ℕ) (s : Stands x p) where
       with-line n =
           rw (fed-line x piece (length buf) n, text-line x piece n)
           (by-lt (length buf) (length (lineTurn x piece .text))
-          (λ l. rw (closed-none x (feedAt piece + 1) (lineTurn x piece) (length buf) l) (one-refused _))
-          (λ l. rw (closed-room x (feedAt piece + 1) (lineTurn x piece) (length buf) l, front-take (lineTurn x piece .text) buf l) (one-line _ n)))
+          (λ l. rw (done-none x (feedAt piece + 1) (lineTurn x piece) (length buf) l) (one-refused _))
+          (λ l. rw (done-room x (feedAt piece + 1) (lineTurn x piece) (length buf) l, front-take (lineTurn x piece .text) buf l) (one-line _ n)))
 
 -- A RUN OF CALLS: the line so far after it, and the lines before, each a turn, with all that was written
 pub record Ran (c : Core) (input out : List ℕ) (y : Session) : Type 0 where
@@ -210,7 +210,7 @@ pub finish-wrote : (y : Session) (buf : List ℕ) → lineTop ≤ length buf →
 finish-wrote y buf h =
     let a = verdict-short (lastOf (y .core .settling) (y .carry .len) (y .core .stage)) in
     let l : length (lastTurn y .text) ≤ length buf = omega arith in
-    rw (closed-room y 0 (lastTurn y) (length buf) l) (front-take (lastTurn y .text) buf l)
+    rw (done-room y 0 (lastTurn y) (length buf) l) (front-take (lastTurn y .text) buf l)
 
 -- from a session on the way, the rest of an input
 pub whole-from : {x y : Session} {input out : List ℕ} → Feeds x input out y → (p : List ℕ) → Stands x p → (buf : List ℕ) → lineTop ≤ length buf

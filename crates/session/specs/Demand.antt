@@ -10,8 +10,8 @@ use Rattle.units.specs.declared.refusal.Verdict.{Verdict}
 use Rattle.units.specs.declared.refusal.Verdict.the-variants.{Taken, Refused}
 use Rattle.units.specs.Limits.{lineTop}
 use Rattle.message.specs.declared.head.Head.{Head}
-use Rattle.message.specs.declared.head.Head.the-variants.{Reading, Query, Reply, Advert, Update, Vote, Setpoints, Due, CollectingEnds, VotingEnds, Floor, Start, Refused as HeadRefused}
 use Rattle.message.specs.declared.value.Message.{Message}
+use Rattle.message.specs.View.{onStart}
 use Rattle.fields.specs.Lines.{feedAt, linesOf}
 use Rattle.plan.specs.declared.brief.Phase.the-variants.{Idle}
 use Rattle.lines.specs.declared.settle.Answer.{Answer as Told}
@@ -41,35 +41,23 @@ toldVerdict Whole = Taken
 toldVerdict (NoSettings why) = Refused why
 
 unfoldable pub waitVerdict : Head → Verdict
-waitVerdict (Reading label run raw) = Refused Closed
-waitVerdict (Query sender label mask) = Refused Closed
-waitVerdict (Reply sender label mask) = Refused Closed
-waitVerdict (Advert sender state) = Refused Closed
-waitVerdict (Update sender state) = Refused Closed
-waitVerdict (Vote sender label digest) = Refused Closed
-waitVerdict (Setpoints sender label digest) = Refused Closed
-waitVerdict (Due label) = Refused Closed
-waitVerdict (CollectingEnds label) = Refused Closed
-waitVerdict (VotingEnds label) = Refused Closed
-waitVerdict (Floor label) = Refused Closed
-waitVerdict (Start own floor) = Taken
-waitVerdict (HeadRefused number) = Refused Closed
+waitVerdict head = onStart (λ own floor. Taken) (Refused Closed) head
 
 unfoldable pub heardVerdict : (Message → Verdict) → Message → Verdict → Verdict
 heardVerdict go a Taken = go a
 heardVerdict go a (Refused why) = Refused why
 
 -- the message that a line says, and the step that it leads to
-abbrev pub saidBy : Core → List ℕ → Message
-saidBy c line = readLine (groupIn c) line .message
+abbrev pub spokenIn : Core → List ℕ → Message
+spokenIn c line = readLine (groupIn c) line .message
 
 abbrev pub stepBy : Core → List ℕ → Answer
-stepBy c line = stepped (numbersIn c) (c .controller) (saidBy c line)
+stepBy c line = stepped (numbersIn c) (c .controller) (spokenIn c line)
 
 unfoldable pub verdictAt : Core → List ℕ → Stage → Verdict
 verdictAt c line AtSettings = toldVerdict (settleLine (c .settling) line .answer)
-verdictAt c line Waiting = heardVerdict (λ a. waitVerdict (a .head)) (saidBy c line) (readLine (groupIn c) line .verdict)
-verdictAt c line Running = heardVerdict (λ a. stepped (numbersIn c) (c .controller) a .verdict) (saidBy c line) (readLine (groupIn c) line .verdict)
+verdictAt c line Waiting = heardVerdict (λ a. waitVerdict (a .head)) (spokenIn c line) (readLine (groupIn c) line .verdict)
+verdictAt c line Running = heardVerdict (λ a. stepped (numbersIn c) (c .controller) a .verdict) (spokenIn c line) (readLine (groupIn c) line .verdict)
 verdictAt c line Ended = Taken
 
 abbrev pub verdictOf : Core → List ℕ → Verdict
@@ -100,7 +88,7 @@ pub record AllElse (c n : Controller) : Type 0 where
 
 -- 12, 13 AND 14 end the round
 pub record RoundOver (x : Session) (line piece buf : List ℕ) (why : Refusal) : Type 0 where
-  pub how : EndedBy (x .core .controller) (saidBy (x .core) line .head) why (stepBy (x .core) line)
+  pub how : EndedBy (x .core .controller) (spokenIn (x .core) line .head) why (stepBy (x .core) line)
   pub kept : AllElse (x .core .controller) (stepBy (x .core) line .next)
   pub core : fed x piece (length buf) .next .core ≡ runningWith (x .core) (stepBy (x .core) line .next)
   pub took : fed x piece (length buf) .took ≡ feedAt piece + 1

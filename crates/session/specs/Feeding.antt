@@ -86,22 +86,22 @@ abbrev pub Wrote : Turn → List ℕ → List ℕ → Turned → Type 0
 Wrote t before after r = (r .next ≡ t .next) × (r .written ≡ answerOf (t .text) before) × (after ≡ bufferOf (t .text) before)
 
 -- 16: with too little room nothing is taken, written or changed
-abbrev pub closed : Session → ℕ → Turn → ℕ → Fed
-closed x end t room =
+abbrev pub lineDone : Session → ℕ → Turn → ℕ → Fed
+lineDone x end t room =
     pick (ltb room (length (t .text))) (record { next = x; took = 0; wrote = 0; verdict = Refused Room })
     (record { next = record { core = t .next; carry = emptied (x .carry) }; took = end; wrote = length (t .text); verdict = Taken })
 
 -- the same, by what was written
-unfoldable pub shut : Session → ℕ → Core → Written → Fed
-shut x end next (Done len) = record { next = record { core = next; carry = emptied (x .carry) }; took = end; wrote = len; verdict = Taken }
-shut x end next (NotWritten why) = record { next = x; took = 0; wrote = 0; verdict = Refused why }
+unfoldable pub lineDoneBy : Session → ℕ → Core → Written → Fed
+lineDoneBy x end next (Done len) = record { next = record { core = next; carry = emptied (x .carry) }; took = end; wrote = len; verdict = Taken }
+lineDoneBy x end next (NotWritten why) = record { next = x; took = 0; wrote = 0; verdict = Refused why }
 
 -- an input without a line feed is held
 abbrev pub holding : Session → List ℕ → Fed
 holding x input = record { next = record { core = x .core; carry = held (x .carry) input }; took = length input; wrote = 0; verdict = Taken }
 
 unfoldable pub fed : Session → List ℕ → ℕ → Fed
-fed x input room = pick (eqb (feedAt input) (length input)) (holding x input) (closed x (feedAt input + 1) (lineTurn x input) room)
+fed x input room = pick (eqb (feedAt input) (length input)) (holding x input) (lineDone x (feedAt input + 1) (lineTurn x input) room)
 
 -- what a call writes, where there is room for it
 unfoldable pub fedText : Session → List ℕ → List ℕ
@@ -131,7 +131,7 @@ lastTurn x =
     record { next = settledIn (x .core) Ended (x .core .settling); text = verdictText (lastOf (x .core .settling) (x .carry .len) (x .core .stage)) }
 
 abbrev pub finished : Session → ℕ → Fed
-finished x room = closed x 0 (lastTurn x) room
+finished x room = lineDone x 0 (lastTurn x) room
 
 unfoldable pub sessionStart : Session
 sessionStart = record { core = coreStart; carry = carryStart }

@@ -15,7 +15,7 @@ use Rattle.session.specs.Turn.{numbersIn}
 -- lines that led here from the start
 pub record Reached (st : Settling) : Type 0 where
   pub lines : List (List ℕ)
-  pub led : (rest : List (List ℕ)) → settleAll (lines ++ rest) started ≡ settleAll rest st
+  pub reads : (rest : List (List ℕ)) → settleAll (lines ++ rest) started ≡ settleAll rest st
 
 abbrev pub FitsAt : Core → Stage → Type 0
 FitsAt c AtSettings = Reached (c .settling)

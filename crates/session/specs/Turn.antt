@@ -8,8 +8,8 @@ use Rattle.units.specs.declared.refusal.Verdict.the-variants.{Taken, Refused}
 use Rattle.units.specs.declared.settings.Group.{Group}
 use Rattle.units.specs.declared.settings.Numbers.{Numbers}
 use Rattle.message.specs.declared.head.Head.{Head}
-use Rattle.message.specs.declared.head.Head.the-variants.{Reading, Query, Reply, Advert, Update, Vote, Setpoints, Due, CollectingEnds, VotingEnds, Floor, Start, Refused as HeadRefused}
 use Rattle.message.specs.declared.value.Message.{Message}
+use Rattle.message.specs.View.{onStart}
 use Rattle.plan.specs.declared.planned.Sent.{Sent}
 use Rattle.plan.specs.declared.planned.Sent.the-variants.{Nothing, One}
 use Rattle.lines.specs.declared.settle.Answer.{Answer as Told}
@@ -61,19 +61,7 @@ settlesTo c next (NoSettings why) = refusing (settledIn c Ended next) why
 
 -- BEFORE THE FIRST B "another line that passes 1 to 6 is 9"
 unfoldable pub waitsFor : Core → Head → Turn
-waitsFor c (Reading label run raw) = refusing c Closed
-waitsFor c (Query sender label mask) = refusing c Closed
-waitsFor c (Reply sender label mask) = refusing c Closed
-waitsFor c (Advert sender state) = refusing c Closed
-waitsFor c (Update sender state) = refusing c Closed
-waitsFor c (Vote sender label digest) = refusing c Closed
-waitsFor c (Setpoints sender label digest) = refusing c Closed
-waitsFor c (Due label) = refusing c Closed
-waitsFor c (CollectingEnds label) = refusing c Closed
-waitsFor c (VotingEnds label) = refusing c Closed
-waitsFor c (Floor label) = refusing c Closed
-waitsFor c (Start own floor) = quiet (runningWith c (startOf (numbersIn c) own floor))
-waitsFor c (HeadRefused number) = refusing c Closed
+waitsFor c head = onStart (λ own floor. quiet (runningWith c (startOf (numbersIn c) own floor))) (refusing c Closed) head
 
 -- AFTER IT each line is a message, and B a restart
 -- what is done with a message, where the line was taken

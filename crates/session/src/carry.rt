@@ -39,7 +39,7 @@ fn take_first(settling: Settling, bytes: &[u8], n: usize) -> Settled
 }
 
 // What the line says that ends with the first n bytes of an input.
-pub fn read_on(carry: Carry, input: &[u8], n: usize, group: Group) -> Line
+pub(crate) fn read_on(carry: Carry, input: &[u8], n: usize, group: Group) -> Line
     ensures { λ r. ⌜ r ≡ readLine group (lineIn carry (take n (now (input .entry)))) ⌝ }
 {
     if carry.is_empty() {
@@ -52,7 +52,7 @@ pub fn read_on(carry: Carry, input: &[u8], n: usize, group: Group) -> Line
 }
 
 // The same of a line of the settings.
-pub fn take_on(carry: Carry, settling: Settling, input: &[u8], n: usize) -> Settled
+pub(crate) fn take_on(carry: Carry, settling: Settling, input: &[u8], n: usize) -> Settled
     ensures { λ r. ⌜ r ≡ settleLine settling (lineIn carry (take n (now (input .entry)))) ⌝ }
 {
     if carry.is_empty() {

@@ -2,7 +2,7 @@
 ghost use mathlib.Core.Path.{_≡_};
 ghost use lib.ListN.{length};
 ghost use Rattle.lines.specs.Writing.{bufferOf};
-ghost use Rattle.session.specs.Feeding.{fed, fedText, finished, holding, isEnded, lastOf, lastTurn, sessionStart, shut, unendedLine};
+ghost use Rattle.session.specs.Feeding.{fed, fedText, finished, holding, isEnded, lastOf, lastTurn, sessionStart, lineDoneBy, unendedLine};
 use crate::answer::put_verdict;
 use crate::stage::Core;
 use crate::stage::Stage;
@@ -86,8 +86,8 @@ impl Session {
     }
 
     // The line is closed, or nothing is changed where there was too little room.
-    fn close(self, turned: Turned, end: usize) -> Fed
-        ensures { λ r. ⌜ r ≡ shut self end (turned .next) (turned .written) ⌝ }
+    fn line_done(self, turned: Turned, end: usize) -> Fed
+        ensures { λ r. ⌜ r ≡ lineDoneBy self end (turned .next) (turned .written) ⌝ }
     {
         let core = turned.next;
         let written = turned.written;
@@ -139,7 +139,7 @@ impl Session {
             return self.hold(input);
         }
         let turned = core.turn(line, carry, input, feed + 1, out);
-        self.close(turned, feed + 1)
+        self.line_done(turned, feed + 1)
     }
 
     // The input has ended.
@@ -151,7 +151,7 @@ impl Session {
         let settling = core.settling;
         let stage = core.stage;
         let written = put_verdict(last_of(settling, carry.len(), stage), out);
-        self.close(
+        self.line_done(
             Turned {
                 next: core.settled(Stage::Ended, settling),
                 written,

@@ -78,45 +78,8 @@ impl Core {
         ensures { λ r. ⌜ Wrote (waitsFor self head) (now (out .entry)) (now (out .exit)) r ⌝ }
     {
         match head {
-            Head::Reading {
-                label: _,
-                run: _,
-                raw: _,
-            } => self.refuse(Refusal::Closed, out),
-            Head::Query {
-                sender: _,
-                label: _,
-                mask: _,
-            } => self.refuse(Refusal::Closed, out),
-            Head::Reply {
-                sender: _,
-                label: _,
-                mask: _,
-            } => self.refuse(Refusal::Closed, out),
-            Head::Advert {
-                sender: _,
-                state: _,
-            } => self.refuse(Refusal::Closed, out),
-            Head::Update {
-                sender: _,
-                state: _,
-            } => self.refuse(Refusal::Closed, out),
-            Head::Vote {
-                sender: _,
-                label: _,
-                digest: _,
-            } => self.refuse(Refusal::Closed, out),
-            Head::Setpoints {
-                sender: _,
-                label: _,
-                digest: _,
-            } => self.refuse(Refusal::Closed, out),
-            Head::Due { label: _ } => self.refuse(Refusal::Closed, out),
-            Head::CollectingEnds { label: _ } => self.refuse(Refusal::Closed, out),
-            Head::VotingEnds { label: _ } => self.refuse(Refusal::Closed, out),
-            Head::Floor { label: _ } => self.refuse(Refusal::Closed, out),
             Head::Start { own, floor } => self.begin(own, floor),
-            Head::Refused { number: _ } => self.refuse(Refusal::Closed, out),
+            _ => self.refuse(Refusal::Closed, out),
         }
     }
 

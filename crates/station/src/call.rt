@@ -12,14 +12,14 @@ pub enum Outcome {
 }
 
 // More than any station lives to count.
-pub fn budget() -> u64
+pub(crate) fn budget() -> u64
     ensures { λ r. ⌜ r ≡ 2 ^ 64 - 1 ⌝ }
 {
     18446744073709551615
 }
 
 // What an answer means, by errno where it is negative: a call that a signal interrupted is made again.
-pub fn meaning(got: isize, error: i32, part: &[u8]) -> Outcome
+pub(crate) fn meaning(got: isize, error: i32, part: &[u8]) -> Outcome
     ensures { λ r. ⌜ r ≡ outcomeOf got error (length (now (part .entry))) ⌝ }
 {
     if got < 0 {
@@ -32,7 +32,7 @@ pub fn meaning(got: isize, error: i32, part: &[u8]) -> Outcome
 }
 
 // How many bytes were moved.
-pub fn moved(outcome: Outcome) -> usize
+pub(crate) fn moved(outcome: Outcome) -> usize
     ensures { λ r. ⌜ r ≡ movedBy outcome ⌝ }
 {
     match outcome {
@@ -42,7 +42,7 @@ pub fn moved(outcome: Outcome) -> usize
     }
 }
 
-pub fn is_moved(outcome: Outcome) -> bool
+pub(crate) fn is_moved(outcome: Outcome) -> bool
     ensures { λ r. ⌜ r ≡ isMoved outcome ⌝ }
 {
     match outcome {
@@ -53,7 +53,7 @@ pub fn is_moved(outcome: Outcome) -> bool
 }
 
 // How many more writes there may be: none after one that failed or took nothing, and one less after one that was interrupted.
-pub fn writes_left(outcome: Outcome, left: u64) -> u64
+pub(crate) fn writes_left(outcome: Outcome, left: u64) -> u64
     requires { ⌜ 1 ≤ left ⌝ }
     ensures { λ r. ⌜ r ≡ writesLeft left outcome ⌝ }
 {
@@ -70,7 +70,7 @@ pub fn writes_left(outcome: Outcome, left: u64) -> u64
 }
 
 // How many more reads there may be: none but after one that was interrupted.
-pub fn reads_left(outcome: Outcome, left: u64) -> u64
+pub(crate) fn reads_left(outcome: Outcome, left: u64) -> u64
     requires { ⌜ 1 ≤ left ⌝ }
     ensures { λ r. ⌜ r ≡ readsLeft left outcome ⌝ }
 {

@@ -26,7 +26,7 @@ fn read_some(block: &mut [u8]) -> Outcome
 }
 
 // Reads a block. An interrupted read is made again.
-pub fn hear(block: &mut [u8]) -> Heard
+pub(crate) fn hear(block: &mut [u8]) -> Heard
     ensures { λ r. ⌜ r .have ≤ length (now (block .entry)) ⌝ }
 {
     let mut have: usize = 0;

@@ -18,7 +18,7 @@ fn write_some(fd: i32, part: &[u8]) -> Outcome
 
 // Writes the first n bytes, each once and in order, and says whether all were taken. A write that took a part, or was interrupted, goes on where it
 // stopped; after any other not one byte more is written.
-pub fn say(fd: i32, text: &[u8], n: usize) -> bool
+pub(crate) fn say(fd: i32, text: &[u8], n: usize) -> bool
     requires { ⌜ n ≤ length (now text) ⌝ }
 {
     let mut at: usize = 0;

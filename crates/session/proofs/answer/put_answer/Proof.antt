@@ -47,21 +47,28 @@ same-length-2 : tie.Need-same-length-2
 same-length-2 c = search needs
 
 returns-2 : tie.Need-returns-2
-returns-2 c = let a = c .before .before .before .before .before .before .before .before .before .before .before .before .args in puts-same (a .out .now) (one-text (a .numbers) (a .c) _ (c .before .before .before .before .before .before .before .before .before .first .given .1) (c .before .before .before .before .before .before .enum-told2 .given .1) (c .before .before .before .before .enum-told3 .given .1)) (c .before .before .put-sent .ensures)
+returns-2 c =
+    let a = c .before .before .before .before .before .before .before .before .before .before .before .before .args in
+    let d = c .before .before .before .before in
+    puts-same (a .out .now) (one-text (a .numbers) (a .c) _ (d .before .before .before .before .before .first .given .1) (d .before .before .enum-told2 .given .1) (d .enum-told3 .given .1)) (c .before .before .put-sent .ensures)
 
 same-length-3 : tie.Need-same-length-3
 same-length-3 c = search needs
 
 returns-3 : tie.Need-returns-3
 unfolding putText
-returns-3 c = let a = c .before .before .before .before .before .before .before .before .before .before .before .before .args in puts-same (a .out .now) (ap (putText (a .numbers) (a .c) (a .second) (a .verdict)) (c .before .before .before .before .before .before .before .before .before .first .given .1)) (c .before .before .put-both .ensures)
+returns-3 c =
+    let a = c .before .before .before .before .before .before .before .before .before .before .before .before .args in
+    puts-same (a .out .now) (ap (putText (a .numbers) (a .c) (a .second) (a .verdict)) (c .before .before .before .before .before .before .before .before .before .first .given .1)) (c .before .before .put-both .ensures)
 
 same-length-4 : tie.Need-same-length-4
 same-length-4 c = search needs
 
 returns-4 : tie.Need-returns-4
 unfolding putText
-returns-4 c = let a = c .before .before .before .before .before .before .before .before .before .before .args in puts-same (a .out .now) (ap (putText (a .numbers) (a .c) (a .second) (a .verdict)) (c .before .before .before .before .before .before .before .first .given .1)) (c .before .before .put-both2 .ensures)
+returns-4 c =
+    let a = c .before .before .before .before .before .before .before .before .before .before .args in
+    puts-same (a .out .now) (ap (putText (a .numbers) (a .c) (a .second) (a .verdict)) (c .before .before .before .before .before .before .before .first .given .1)) (c .before .before .put-both2 .ensures)
 
 pub put-answer-spec : {M : Type 1} → statement M
 put-answer-spec =

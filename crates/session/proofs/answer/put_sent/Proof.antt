@@ -18,7 +18,9 @@ same-length : tie.Need-same-length
 same-length c = search needs
 
 returns : tie.Need-returns
-returns c = let a = c .before .before .before .before .before .before .before .before .args in plain-puts (a .numbers) (a .c) (a .head) (sym (c .before .before .before .before .before .before .is-plain .ensures) ∙ c .before .before .before .before .before .if1 .taken) (a .out .now) (c .or-nothing .ensures) (c .before .before .before .write-plain .ensures)
+returns c =
+    let a = c .before .before .before .before .before .before .before .before .args in
+    plain-puts (a .numbers) (a .c) (a .head) (sym (c .before .before .before .before .before .before .is-plain .ensures) ∙ c .before .before .before .before .before .if1 .taken) (a .out .now) (c .or-nothing .ensures) (c .before .before .before .write-plain .ensures)
 
 message-requires : tie.Need-message-requires
 message-requires c κs = search needs

@@ -73,23 +73,30 @@ put-plan-requires c κs = search needs
 
 add-filled : tie.Need-add-filled Inv-loop μ-loop
 add-filled c =
-    let k = c .before .before .before .before .before .before .before .before .before .before .before .before .before .before .before .loop in
+    let d = c .before .before .before .before .before .before .before .before .before in
+    let s = d .before .before .before .before .before .before .before .before .before .before in
+    let k = d .before .before .before .before .before .before .loop in
     let h = k .inv in
     let p = c .before .before .before .before .before .before .plan-line in
     let n = ⊎-elim (λ v. kept-next _ _ _ (p .result) (c .before .before .before .before .before .change2 .ensures) (v .1 .given .1) ∙ sym (v .2)) (λ v. sym (v .1 .ensures) ∙ sym (v .2)) (c .before .before .before .before .match2 .came) in
-    let g = goes-planned _ _ _ _ h (c .before .before .before .before .before .before .before .before .before .before .before .before .read-first .ensures) (c .before .before .before .before .before .before .before .before .before .before .before .before .before .before .loop-test .taken) (c .before .before .before .before .before .before .before .before .before .if1 .left) (p .ensures) n (c .before .before .put-plan .ensures) refl in
-    let s = c .before .before .before .before .before .before .before .before .before .before .before .before .before .before .before .before .before .before .before in
+    let g = goes-planned _ _ _ _ h (d .before .before .before .read-first .ensures) (d .before .before .before .before .before .loop-test .taken) (d .if1 .left) (p .ensures) n (c .before .before .put-plan .ensures) refl in
     let z : k .filled + c .before .before .put-plan .result ≤ length (s .args .out .now) = omega (arith, g .0, kept _ _ _ _ h) in
     let t : length (s .args .out .now) < 18446744073709551616 = omega (arith, s .good) in sum-fits _ _ z t
 
 add-at : tie.Need-add-at Inv-loop μ-loop
-add-at c = let e = end-within _ _ _ _ (c .before .before .before .before .before .before .before .before .loop .inv) (c .before .before .before .before .before .read-first .ensures) (c .before .before .before .before .before .before .before .loop-test .taken) (c .before .before .if1 .left) in omega (arith, e)
+add-at c =
+    let e = end-within _ _ _ _ (c .before .before .before .before .before .before .before .before .loop .inv) (c .before .before .before .before .before .read-first .ensures) (c .before .before .before .before .before .before .before .loop-test .taken) (c .before .before .if1 .left) in
+    omega (arith, e)
 
 add-at-2 : tie.Need-add-at-2 Inv-loop μ-loop
-add-at-2 c = let e = end-within _ _ _ _ (c .before .before .before .before .before .before .before .before .loop .inv) (c .before .before .before .before .before .read-first .ensures) (c .before .before .before .before .before .before .before .loop-test .taken) (c .before .before .if1 .left) in omega (arith, e)
+add-at-2 c =
+    let e = end-within _ _ _ _ (c .before .before .before .before .before .before .before .before .loop .inv) (c .before .before .before .before .before .read-first .ensures) (c .before .before .before .before .before .before .before .loop-test .taken) (c .before .before .if1 .left) in
+    omega (arith, e)
 
 loop-less : tie.Need-loop-less Inv-loop μ-loop
-loop-less c = let e = end-within _ _ _ _ (c .before .before .before .before .before .before .before .before .loop .inv) (c .before .before .before .before .before .read-first .ensures) (c .before .before .before .before .before .before .before .loop-test .taken) (c .before .before .if1 .left) in omega (arith, e)
+loop-less c =
+    let e = end-within _ _ _ _ (c .before .before .before .before .before .before .before .before .loop .inv) (c .before .before .before .before .before .read-first .ensures) (c .before .before .before .before .before .before .before .loop-test .taken) (c .before .before .if1 .left) in
+    omega (arith, e)
 
 loop-again : tie.Need-loop-again Inv-loop μ-loop
 loop-again c =

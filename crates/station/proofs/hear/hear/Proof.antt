@@ -33,7 +33,9 @@ reads-left-requires : tie.Need-reads-left-requires Inv-loop μ-loop
 reads-left-requires c κs = search needs
 
 loop-less : tie.Need-loop-less Inv-loop μ-loop
-loop-less c = let r = reads-less (c .before .before .before .before .before .read-some .result) (c .before .before .before .before .before .before .before .before .loop .left) (c .before .before .before .before .before .before .before .loop-test .taken) in let e = c .reads-left .ensures in omega (arith, r, e)
+loop-less c =
+    let r = reads-less (c .before .before .before .before .before .read-some .result) (c .before .before .before .before .before .before .before .before .loop .left) (c .before .before .before .before .before .before .before .loop-test .taken) in
+    let e = c .reads-left .ensures in omega (arith, r, e)
 
 loop-again : tie.Need-loop-again Inv-loop μ-loop
 loop-again c = let i = c .before .before .before .before .before .before .before .before .loop .inv in let m = c .before .before .moved .ensures in let s = c .before .before .before .before .before .read-some .ensures in (omega (arith, m, s, i .1), omega (arith, i .1))

@@ -21,17 +21,19 @@ add-turn c = let a = c .before .before .before .before .before .before .before .
 turn-requires : tie.Need-turn-requires
 turn-requires c κs = let a = c .before .before .before .before .before .before .before .before .args in feed-heard (a .self) (a .input .now) _ (c .before .before .before .first .ensures .0) _ (c .before .before .before .first .ensures .1) (c .before .if1 .left)
 
-add-close : tie.Need-add-close
-add-close c = let a = c .before .before .before .before .before .before .before .before .before .before .before .args in omega (arith, feed-within (a .input .now) _ (c .before .before .before .before .before .before .first .ensures .0), c .before .before .before .before .if1 .left)
+add-line-done : tie.Need-add-line-done
+add-line-done c = let a = c .before .before .before .before .before .before .before .before .before .before .before .args in omega (arith, feed-within (a .input .now) _ (c .before .before .before .before .before .before .first .ensures .0), c .before .before .before .before .if1 .left)
 
-close-requires : tie.Need-close-requires
-close-requires c κs = search needs
+line-done-requires : tie.Need-line-done-requires
+line-done-requires c κs = search needs
 
 same-length : tie.Need-same-length
 same-length c = search needs
 
 returns-2 : tie.Need-returns-2
-returns-2 c = let a = c .before .before .before .before .before .before .before .before .before .before .before .before .args in feed-turned (a .self) (a .input .now) _ (c .before .before .before .before .before .before .before .first .ensures .0) _ _ (a .out .now) _ (c .before .before .before .before .before .if1 .left) (c .before .before .before .turn .ensures) (c .close .ensures)
+returns-2 c =
+    let a = c .before .before .before .before .before .before .before .before .before .before .before .before .args in
+    feed-turned (a .self) (a .input .now) _ (c .before .before .before .before .before .before .before .first .ensures .0) _ _ (a .out .now) _ (c .before .before .before .before .before .if1 .left) (c .before .before .before .turn .ensures) (c .line-done .ensures)
 
 pub feed-spec : {M : Type 1} → statement M
 feed-spec =
@@ -42,7 +44,7 @@ feed-spec =
     returns
     add-turn
     turn-requires
-    add-close
-    close-requires
+    add-line-done
+    line-done-requires
     same-length
     returns-2)

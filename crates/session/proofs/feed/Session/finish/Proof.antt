@@ -3,7 +3,7 @@ use Prim.Native.Nat.{ℕ}
 use mathlib.Core.Path.{ap, _∙_}
 use borrow.Author.Needs.{needs}
 use Rattle.session.specs.Feeding.{lastOf}
-use Rattle.session.proofs.Feeds.{finish-shut}
+use Rattle.session.proofs.Feeds.{finish-done}
 use Rattle.session.proofs.feed.Session.finish.Statement.{statement}
 use Rattle.session.proofs.feed.Session.finish.Tie as tie
 
@@ -19,14 +19,18 @@ put-verdict-requires c κs = search needs
 settled-requires : tie.Need-settled-requires
 settled-requires c κs = search needs
 
-close-requires : tie.Need-close-requires
-close-requires c κs = search needs
+line-done-requires : tie.Need-line-done-requires
+line-done-requires c κs = search needs
 
 same-length : tie.Need-same-length
 same-length c = search needs
 
 returns : tie.Need-returns
-returns c = let a = c .before .before .before .before .before .before .before .before .before .before .before .before .args in finish-shut (a .self) _ _ _ _ (a .out .now) _ (c .before .settled .ensures) (c .before .before .before .before .before .before .last-of .ensures ∙ ap (λ (k : ℕ). lastOf (a .self .core .settling) k (a .self .core .stage)) (c .before .before .before .before .before .before .before .len .ensures)) (c .before .before .before .before .put-verdict .ensures) (c .close .ensures)
+returns c =
+    let a = c .before .before .before .before .before .before .before .before .before .before .before .before .args in
+    let k = a .self .core in
+    let l = c .before .before .before .before .before .before .last-of .ensures ∙ ap (λ (n : ℕ). lastOf (k .settling) n (k .stage)) (c .before .before .before .before .before .before .before .len .ensures) in
+    finish-done (a .self) _ _ _ _ (a .out .now) _ (c .before .settled .ensures) l (c .before .before .before .before .put-verdict .ensures) (c .line-done .ensures)
 
 pub finish-spec : {M : Type 1} → statement M
 finish-spec =
@@ -36,6 +40,6 @@ finish-spec =
     last-of-requires
     put-verdict-requires
     settled-requires
-    close-requires
+    line-done-requires
     same-length
     returns)

@@ -59,7 +59,8 @@ add-filled c =
     let t : length (s .args .out .now) < 18446744073709551616 = omega (arith, s .good) in sum-fits _ _ z t
 
 loop-less : tie.Need-loop-less Inv-loop μ-loop
-loop-less c = let g = goes-served _ _ _ (c .before .before .before .before .before .before .before .before .before .loop .inv) (c .before .before .before .before .before .before .before .before .loop-test .taken) (c .before .before .before .before .before .serve .ensures) refl in omega (arith, g .0, g .1)
+loop-less c =
+    let g = goes-served _ _ _ (c .before .before .before .before .before .before .before .before .before .loop .inv) (c .before .before .before .before .before .before .before .before .loop-test .taken) (c .before .before .before .before .before .serve .ensures) refl in omega (arith, g .0, g .1)
 
 loop-again : tie.Need-loop-again Inv-loop μ-loop
 loop-again c = goes-served _ _ _ (c .before .before .before .before .before .before .before .before .before .loop .inv) (c .before .before .before .before .before .before .before .before .loop-test .taken) (c .before .before .before .before .before .serve .ensures) refl .3

@@ -24,7 +24,9 @@ same-length : tie.Need-same-length
 same-length c = search needs
 
 returns : tie.Need-returns
-returns c = let a = c .before .before .before .before .before .before .before .before .before .args in let f = c .before .before .before .before .before .feed in code-stays (a .self) (a .input .now) (a .out .now) _ (f .ensures .1) (f .result) (f .ensures .0) (sym (c .before .may-run .ensures) ∙ not-true _ (c .if1 .taken))
+returns c =
+    let a = c .before .before .before .before .before .before .before .before .before .args in
+    let f = c .before .before .before .before .before .feed in code-stays (a .self) (a .input .now) (a .out .now) _ (f .ensures .1) (f .result) (f .ensures .0) (sym (c .before .may-run .ensures) ∙ not-true _ (c .if1 .taken))
 
 numbers-requires : tie.Need-numbers-requires
 numbers-requires c κs = search needs
@@ -39,10 +41,14 @@ part-run-lines-end : tie.Need-part-run-lines-end
 part-run-lines-end c = search needs
 
 sub-run-lines-2 : tie.Need-sub-run-lines-2
-sub-run-lines-2 c = let a = c .before .before .before .before .before .before .before .before .before .before .before .before .before .before .args in let f = c .before .before .before .before .before .before .before .before .before .before .feed in code-wrote (a .self) (a .input .now) (a .out .now) _ (f .ensures .1) (f .result) (f .ensures .0)
+sub-run-lines-2 c =
+    let a = c .before .before .before .before .before .before .before .before .before .before .before .before .before .before .args in
+    let f = c .before .before .before .before .before .before .before .before .before .before .feed in code-wrote (a .self) (a .input .now) (a .out .now) _ (f .ensures .1) (f .result) (f .ensures .0)
 
 part-run-lines-start-2 : tie.Need-part-run-lines-start-2
-part-run-lines-start-2 c = let a = c .before .before .before .before .before .before .before .before .before .before .before .before .before .before .args in let f = c .before .before .before .before .before .before .before .before .before .before .feed in code-wrote (a .self) (a .input .now) (a .out .now) _ (f .ensures .1) (f .result) (f .ensures .0)
+part-run-lines-start-2 c =
+    let a = c .before .before .before .before .before .before .before .before .before .before .before .before .before .before .args in
+    let f = c .before .before .before .before .before .before .before .before .before .before .feed in code-wrote (a .self) (a .input .now) (a .out .now) _ (f .ensures .1) (f .result) (f .ensures .0)
 
 part-run-lines-end-2 : tie.Need-part-run-lines-end-2
 part-run-lines-end-2 c = search needs
@@ -54,16 +60,51 @@ running-requires : tie.Need-running-requires
 running-requires c κs = search needs
 
 add-t20 : tie.Need-add-t20
-add-t20 c = let a = c .before .before .before .before .before .before .before .before .before .before .before .before .before .before .before .before .before .before .before .before .before .args in let f = c .before .before .before .before .before .before .before .before .before .before .before .before .before .before .before .before .before .feed in let g = code-goes (a .self) (a .input .now) (a .out .now) _ (f .ensures .1) (f .result) (f .ensures .0) (sym (c .before .before .before .before .before .before .before .before .before .before .before .before .before .may-run .ensures) ∙ not-false _ (c .before .before .before .before .before .before .before .before .before .before .before .before .if1 .left)) (c .before .before .before .before .before .run-lines .result) _ (rw (c .before .before .before .before .before .before .before .before .numbers .ensures) at (c .before .before .before .before .before .run-lines .ensures)) in let t : length (a .input .now) < 18446744073709551616 = omega (arith, c .before .before .before .before .before .before .before .before .before .before .before .before .before .before .before .before .before .before .before .before .before .good) in sum-fits _ _ (g .0 .0) t
+add-t20 c =
+    let r = c .before .before .before .before .before in
+    let d = r .before .before .before .before .before .before .before in
+    let a = d .before .before .before .before .before .before .before .before .before .args in
+    let f = d .before .before .before .before .before .feed in
+    let m = sym (d .before .may-run .ensures) ∙ not-false _ (d .if1 .left) in
+    let l = rw (r .before .before .before .numbers .ensures) at (r .run-lines .ensures) in
+    let g = code-goes (a .self) (a .input .now) (a .out .now) _ (f .ensures .1) (f .result) (f .ensures .0) m (r .run-lines .result) _ l in
+    let t : length (a .input .now) < 18446744073709551616 = omega (arith, d .before .before .before .before .before .before .before .before .before .good) in sum-fits _ _ (g .0 .0) t
 
 add-t24 : tie.Need-add-t24
-add-t24 c = let a = c .before .before .before .before .before .before .before .before .before .before .before .before .before .before .before .before .before .before .before .before .before .before .args in let f = c .before .before .before .before .before .before .before .before .before .before .before .before .before .before .before .before .before .before .feed in let g = code-goes (a .self) (a .input .now) (a .out .now) _ (f .ensures .1) (f .result) (f .ensures .0) (sym (c .before .before .before .before .before .before .before .before .before .before .before .before .before .before .may-run .ensures) ∙ not-false _ (c .before .before .before .before .before .before .before .before .before .before .before .before .before .if1 .left)) (c .before .before .before .before .before .before .run-lines .result) _ (rw (c .before .before .before .before .before .before .before .before .before .numbers .ensures) at (c .before .before .before .before .before .before .run-lines .ensures)) in let t : length (a .out .now) < 18446744073709551616 = omega (arith, c .before .before .before .before .before .before .before .before .before .before .before .before .before .before .before .before .before .before .before .before .before .before .good) in sum-fits _ _ (g .0 .1) t
+add-t24 c =
+    let r = c .before .before .before .before .before .before in
+    let d = r .before .before .before .before .before .before .before in
+    let a = d .before .before .before .before .before .before .before .before .before .args in
+    let f = d .before .before .before .before .before .feed in
+    let m = sym (d .before .may-run .ensures) ∙ not-false _ (d .if1 .left) in
+    let l = rw (r .before .before .before .numbers .ensures) at (r .run-lines .ensures) in
+    let g = code-goes (a .self) (a .input .now) (a .out .now) _ (f .ensures .1) (f .result) (f .ensures .0) m (r .run-lines .result) _ l in
+    let t : length (a .out .now) < 18446744073709551616 = omega (arith, d .before .before .before .before .before .before .before .before .before .good) in sum-fits _ _ (g .0 .1) t
 
 same-length-2 : tie.Need-same-length-2
-same-length-2 c = let a = c .before .before .before .before .before .before .before .before .before .before .before .before .before .before .before .before .before .before .before .before .before .before .args in let f = c .before .before .before .before .before .before .before .before .before .before .before .before .before .before .before .before .before .before .feed in let g = code-goes (a .self) (a .input .now) (a .out .now) _ (f .ensures .1) (f .result) (f .ensures .0) (sym (c .before .before .before .before .before .before .before .before .before .before .before .before .before .before .may-run .ensures) ∙ not-false _ (c .before .before .before .before .before .before .before .before .before .before .before .before .before .if1 .left)) (c .before .before .before .before .before .before .run-lines .result) _ (rw (c .before .before .before .before .before .before .before .before .before .numbers .ensures) at (c .before .before .before .before .before .before .run-lines .ensures)) in ap (λ (l : List ℕ). length l) (g .2) ∙ buffer-length (servedText (a .self) (a .input .now) (length (a .out .now))) (a .out .now)
+same-length-2 c =
+    let r = c .before .before .before .before .before .before in
+    let d = r .before .before .before .before .before .before .before in
+    let a = d .before .before .before .before .before .before .before .before .before .args in
+    let f = d .before .before .before .before .before .feed in
+    let m = sym (d .before .may-run .ensures) ∙ not-false _ (d .if1 .left) in
+    let l = rw (r .before .before .before .numbers .ensures) at (r .run-lines .ensures) in
+    let g = code-goes (a .self) (a .input .now) (a .out .now) _ (f .ensures .1) (f .result) (f .ensures .0) m (r .run-lines .result) _ l in
+    ap (λ (l : List ℕ). length l) (g .2) ∙ buffer-length (servedText (a .self) (a .input .now) (length (a .out .now))) (a .out .now)
 
 returns-2 : tie.Need-returns-2
-returns-2 c = let a = c .before .before .before .before .before .before .before .before .before .before .before .before .before .before .before .before .before .before .before .before .before .before .args in let f = c .before .before .before .before .before .before .before .before .before .before .before .before .before .before .before .before .before .before .feed in let g = code-goes (a .self) (a .input .now) (a .out .now) _ (f .ensures .1) (f .result) (f .ensures .0) (sym (c .before .before .before .before .before .before .before .before .before .before .before .before .before .before .may-run .ensures) ∙ not-false _ (c .before .before .before .before .before .before .before .before .before .before .before .before .before .if1 .left)) (c .before .before .before .before .before .before .run-lines .result) _ (rw (c .before .before .before .before .before .before .before .before .before .numbers .ensures) at (c .before .before .before .before .before .before .run-lines .ensures)) in (ap (λ (k : Core). record { next = record { core = k; carry = f .result .next .carry }; took = f .result .took + c .before .before .before .before .before .before .run-lines .result .took; wrote = f .result .wrote + c .before .before .before .before .before .before .run-lines .result .wrote; verdict = f .result .verdict }) (c .before .before .running .ensures) ∙ g .1, g .2)
+returns-2 c =
+    let r = c .before .before .before .before .before .before in
+    let d = r .before .before .before .before .before .before .before in
+    let a = d .before .before .before .before .before .before .before .before .before .args in
+    let f = d .before .before .before .before .before .feed in
+    let m = sym (d .before .may-run .ensures) ∙ not-false _ (d .if1 .left) in
+    let l = rw (r .before .before .before .numbers .ensures) at (r .run-lines .ensures) in
+    let g = code-goes (a .self) (a .input .now) (a .out .now) _ (f .ensures .1) (f .result) (f .ensures .0) m (r .run-lines .result) _ l in
+    let w = r .run-lines .result in
+    let y = f .result in
+    let n = ap (λ (k : Core). record { next = record { core = k; carry = y .next .carry }; took = y .took + w .took; wrote = y .wrote + w .wrote; verdict = y .verdict }) (c .before .before .running .ensures) in
+    (n ∙ g .1, g .2)
 
 pub serve-spec : {M : Type 1} → statement M
 serve-spec =

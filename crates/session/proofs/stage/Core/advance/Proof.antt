@@ -20,7 +20,10 @@ same-length : tie.Need-same-length
 same-length c = search needs
 
 returns : tie.Need-returns
-returns c = let a = c .before .before .before .before .before .before .before .before .before .before .args in let n = c .before .before .before .before .before .before .before .before .numbers .ensures in wrote-advances (a .self) _ _ _ (a .out .now) (rw n at (c .before .before .before .before .before .before .advance .ensures)) (c .running .ensures) (rw n at (c .before .before .before .put-answer .ensures))
+returns c =
+    let a = c .before .before .before .before .before .before .before .before .before .before .args in
+    let n = c .before .before .before .before .before .before .before .before .numbers .ensures in
+    wrote-advances (a .self) _ _ _ (a .out .now) (rw n at (c .before .before .before .before .before .before .advance .ensures)) (c .running .ensures) (rw n at (c .before .before .before .put-answer .ensures))
 
 pub advance-spec : {M : Type 1} → statement M
 advance-spec =

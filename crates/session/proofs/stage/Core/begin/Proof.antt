@@ -20,7 +20,10 @@ quiet-requires : tie.Need-quiet-requires
 quiet-requires c κs = search needs
 
 returns : tie.Need-returns
-returns c = let a = c .before .before .before .before .args in c .quiet .ensures ∙ ap (λ n. record { next = n; written = Done 0 }) (c .before .running .ensures ∙ ap (runningWith (a .self)) (c .before .before .begin .ensures ∙ ap (λ n. startOf n (a .own) (a .floor)) (c .before .before .before .numbers .ensures)))
+returns c =
+    let a = c .before .before .before .before .args in
+    let n = c .before .before .begin .ensures ∙ ap (λ k. startOf k (a .own) (a .floor)) (c .before .before .before .numbers .ensures) in
+    c .quiet .ensures ∙ ap (λ k. record { next = k; written = Done 0 }) (c .before .running .ensures ∙ ap (runningWith (a .self)) n)
 
 pub begin-spec : {M : Type 1} → statement M
 begin-spec = tie.close (tie.spec numbers-requires begin-requires running-requires quiet-requires returns)

@@ -42,7 +42,9 @@ same-length : tie.Need-same-length
 same-length c = search needs
 
 returns-3 : tie.Need-returns-3
-returns-3 c = let a = c .before .before .before .before .before .before .before .before .before .before .args in wrote-refusing _ _ _ (a .out .now) (settles-refused (a .self) (a .settled .next) _ (c .before .before .before .before .before .before .answer .given .1)) (c .before .before .before .before .settled3 .ensures) (c .before .before .refuse .ensures)
+returns-3 c =
+    let a = c .before .before .before .before .before .before .before .before .before .before .args in
+    wrote-refusing _ _ _ (a .out .now) (settles-refused (a .self) (a .settled .next) _ (c .before .before .before .before .before .before .answer .given .1)) (c .before .before .before .before .settled3 .ensures) (c .before .before .refuse .ensures)
 
 pub settle-spec : {M : Type 1} → statement M
 settle-spec =

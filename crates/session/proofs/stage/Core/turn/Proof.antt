@@ -38,19 +38,29 @@ same-length : tie.Need-same-length
 same-length c = search needs
 
 returns : tie.Need-returns
-returns c = let a = c .before .before .before .before .before .before .before .before .before .before .args in wrote-same (a .out .now) (turn-settles advancing (a .self) _ _ (c .before .before .before .before .before .enum-told .given .1) (c .before .before .before .before .take-on .ensures)) (c .before .before .settle .ensures)
+returns c =
+    let a = c .before .before .before .before .before .before .before .before .before .before .args in
+    wrote-same (a .out .now) (turn-settles advancing (a .self) _ _ (c .before .before .before .before .before .enum-told .given .1) (c .before .before .before .before .take-on .ensures)) (c .before .before .settle .ensures)
 
 same-length-2 : tie.Need-same-length-2
 same-length-2 c = search needs
 
 returns-2 : tie.Need-returns-2
-returns-2 c = let a = c .before .before .before .before .before .before .before .before .before .args in wrote-same (a .out .now) (turn-waits advancing (a .self) _ (a .line) (c .before .before .before .before .enum-told2 .given .1) (waits-heard (a .self) _ (a .line) (c .before .before .before .before .enum-told2 .given .1) (c .before .before .before .before .before .before .before .before .before .pre))) (c .before .before .wait .ensures)
+returns-2 c =
+    let s = c .before .before .before .before .before .before .before .before .before in
+    let a = s .args in
+    let w = c .before .before .before .before .enum-told2 .given .1 in
+    wrote-same (a .out .now) (turn-waits advancing (a .self) _ (a .line) w (waits-heard (a .self) _ (a .line) w (s .pre))) (c .before .before .wait .ensures)
 
 same-length-3 : tie.Need-same-length-3
 same-length-3 c = search needs
 
 returns-3 : tie.Need-returns-3
-returns-3 c = let a = c .before .before .before .before .before .before .before .before .before .args in wrote-same (a .out .now) (turn-runs advancing (a .self) _ (a .line) (c .before .before .before .before .enum-told3 .given .1) (runs-heard (a .self) _ (a .line) (c .before .before .before .before .enum-told3 .given .1) (c .before .before .before .before .before .before .before .before .before .pre))) (c .before .before .run .ensures)
+returns-3 c =
+    let s = c .before .before .before .before .before .before .before .before .before in
+    let a = s .args in
+    let w = c .before .before .before .before .enum-told3 .given .1 in
+    wrote-same (a .out .now) (turn-runs advancing (a .self) _ (a .line) w (runs-heard (a .self) _ (a .line) w (s .pre))) (c .before .before .run .ensures)
 
 returns-4 : tie.Need-returns-4
 returns-4 c = let a = c .before .before .before .before .before .before .args in wrote-quiet _ _ (a .out .now) (turn-ended advancing (a .self) _ (c .before .enum-told4 .given .1)) refl (c .quiet .ensures)

@@ -22,7 +22,9 @@ same-length : tie.Need-same-length
 same-length c = search needs
 
 returns : tie.Need-returns
-returns c = let a = c .before .before .before .before .before .before .before .before .before .args in wrote-same (a .out .now) (hears-refused (λ x. waitsFor (a .self) (x .head)) (a .self) (a .line .message) _ (c .before .before .before .before .before .verdict .given .1)) (c .before .before .refuse .ensures)
+returns c =
+    let a = c .before .before .before .before .before .before .before .before .before .args in
+    wrote-same (a .out .now) (hears-refused (λ x. waitsFor (a .self) (x .head)) (a .self) (a .line .message) _ (c .before .before .before .before .before .verdict .given .1)) (c .before .before .refuse .ensures)
 
 same-length-2 : tie.Need-same-length-2
 same-length-2 c = search needs
