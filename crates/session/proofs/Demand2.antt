@@ -1,6 +1,5 @@
 -- DEMAND 2 AS ONE STATEMENT: each clause is a law that stands elsewhere, under the sentence that it answers. Assumes nothing.
 use Prim.Native.Nat.{ℕ, _+_, _≤_}
-use native.Mathlib.Omega.{arith}
 use mathlib.Core.Path.{_≡_, refl, ap, subst}
 use mathlib.Core.Bool.{true}
 use mathlib.Core.List.{List, _++_}
@@ -12,6 +11,7 @@ use Rattle.units.specs.declared.settings.Group.{Group}
 use Rattle.units.specs.declared.settings.Numbers.{Numbers}
 use Rattle.units.specs.Labels.{before, issuedState}
 use Rattle.units.specs.Limits.{lineTop}
+use Rattle.units.proofs.Every.{absurd-by}
 use Rattle.vote.specs.declared.digest.Digest.{Digest}
 use Rattle.vote.specs.declared.votes.Votes.{Votes}
 use Rattle.vote.specs.Decision.{decision}
@@ -107,12 +107,12 @@ module _ (s : Numbers) (c : Controller) (a : Message) where
   sent-issue : {head : Head} → SentBy s c (a .head) n head → (j : ℕ) (l : RoundLabel) (chosen : Digest) → head ≡ Setpoints j l chosen → Issued s c (a .head) chosen n (sentMessage s n head head .targets)
   unfolding sentMessage
   sent-issue (setpoints {chosen} t) j l d q = let y : chosen ≡ d = cc in subst (λ (k : Digest). Issued s c (a .head) k n (setPoints s (n .estimates))) y (settled-issue t)
-  sent-issue (query e) j l chosen q = let z : _≡_ {A = ℕ} 0 1 = cc in absurd (omega arith)
-  sent-issue (reply asked e) j l chosen q = let z : _≡_ {A = ℕ} 0 1 = cc in absurd (omega arith)
-  sent-issue (advert e) j l chosen q = let z : _≡_ {A = ℕ} 0 1 = cc in absurd (omega arith)
-  sent-issue (update e) j l chosen q = let z : _≡_ {A = ℕ} 0 1 = cc in absurd (omega arith)
-  sent-issue (floor e) j l chosen q = let z : _≡_ {A = ℕ} 0 1 = cc in absurd (omega arith)
-  sent-issue (vote e p) j l chosen q = let z : _≡_ {A = ℕ} 0 1 = cc in absurd (omega arith)
+  sent-issue (query e) j l chosen q = absurd-by (cc)
+  sent-issue (reply asked e) j l chosen q = absurd-by (cc)
+  sent-issue (advert e) j l chosen q = absurd-by (cc)
+  sent-issue (update e) j l chosen q = absurd-by (cc)
+  sent-issue (floor e) j l chosen q = absurd-by (cc)
+  sent-issue (vote e p) j l chosen q = absurd-by (cc)
 
   issue-computed : (sender : ℕ) (label : RoundLabel) (chosen : Digest) → IsSent (stepped s c a) (Setpoints sender label chosen)
       → Issued s c (a .head) chosen n (sentMessage s n (Setpoints sender label chosen) (Setpoints sender label chosen) .targets)

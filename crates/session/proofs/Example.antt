@@ -57,8 +57,12 @@ use Rattle.session.proofs.Whole.{whole}
 -- the definitions that the session opens, by what they are about
 -- binary64 and its bits
 unfoldable float-computes : Unit {0}
-unfolding lt le eq add sub mul div ofInt ofBits toBits fits bitsOf floatOf sameFloat
+unfolding lt le eq add sub mul div
 float-computes = tt
+
+unfoldable float-also : Unit {0}
+unfolding ofInt ofBits toBits fits bitsOf floatOf sameFloat
+float-also = tt
 
 -- settings, ranges of floats, masks
 unfoldable unit-computes : Unit {0}
@@ -72,13 +76,21 @@ digest-computes = tt
 
 -- the decision
 unfoldable judge-computes : Unit {0}
-unfolding tallyOf strengthOf largest otherThan outsider missingOf heldOff rivalOf settledAt settled decision
+unfolding tallyOf strengthOf largest otherThan outsider missingOf
 judge-computes = tt
+
+unfoldable judge-also : Unit {0}
+unfolding heldOff rivalOf settledAt settled decision
+judge-also = tt
 
 -- 'Computing'
 unfoldable filter-computes : Unit {0}
-unfolding atMost limited grown measured gain moved shrunk outcome tab place runsAfter newState
+unfolding atMost limited grown measured gain moved
 filter-computes = tt
+
+unfoldable filter-also : Unit {0}
+unfolding shrunk outcome tab place runsAfter newState
+filter-also = tt
 
 -- total and targets
 unfoldable share-computes : Unit {0}
@@ -87,8 +99,12 @@ share-computes = tt
 
 -- digits and fields
 unfoldable field-computes : Unit {0}
-unfolding allVisible isCertificate digitOf charOf valueFrom fixedIn fixed decimalIn decimal Fields.plain decimalSaid factorSaid saidBy
+unfolding allVisible isCertificate digitOf charOf valueFrom fixedIn fixed
 field-computes = tt
+
+unfoldable field-also : Unit {0}
+unfolding decimalIn decimal Fields.plain decimalSaid factorSaid saidBy
+field-also = tt
 
 -- spellings and texts
 unfoldable text-computes : Unit {0}
@@ -97,40 +113,64 @@ text-computes = tt
 
 -- messages in range, and what they lead to
 unfoldable plan-computes : Unit {0}
-unfolding headFits carried plain messageFits readingsFit afterwards collected sameRound planReading planAdvert inEnds planEnds inFloor planFloor possessed chosenPlan judged
+unfolding headFits carried plain messageFits readingsFit afterwards collected sameRound planReading
 plan-computes = tt
+
+unfoldable plan-also : Unit {0}
+unfolding planAdvert inEnds planEnds inFloor planFloor possessed chosenPlan judged
+plan-also = tt
 
 -- reading
 unfoldable read-computes : Unit {0}
-unfolding column joined readAll readValues readText readLine kindOf quantityAt limitFor countOf headOf messageWith kindIs
+unfolding column joined readAll readValues readText readLine kindOf
 read-computes = tt
+
+unfoldable read-also : Unit {0}
+unfolding quantityAt limitFor countOf headOf messageWith kindIs
+read-also = tt
 
 -- the settings lines, and writing
 unfoldable settle-computes : Unit {0}
-unfolding started settleWeight settleFactor settleCertificate settleRun isKind settleText settleLine headValues valuesOf lineOf spellLine refusalLine
+unfolding started settleWeight settleFactor settleCertificate settleRun isKind settleText
 settle-computes = tt
+
+unfoldable settle-also : Unit {0}
+unfolding settleLine headValues valuesOf lineOf spellLine refusalLine
+settle-also = tt
 
 -- a start and a step
 unfoldable step-computes : Unit {0}
-unfolding phaseFits controllerFits startEstimates startOf runBit applied sentMessage judgedIn judgedPlan planned inputsFit stepped
+unfolding phaseFits controllerFits startEstimates startOf runBit applied
 step-computes = tt
+
+unfoldable step-also : Unit {0}
+unfolding sentMessage judgedIn judgedPlan planned inputsFit stepped
+step-also = tt
 
 -- the program
 unfoldable turn-computes : Unit {0}
-unfolding bytesOf sessionInput sessionOutput closing answers coreStart settlesTo waitsFor hears sentText verdictText answerText turnBy
+unfolding bytesOf sessionInput sessionOutput closing answers coreStart settlesTo
 turn-computes = tt
 
+unfoldable turn-also : Unit {0}
+unfolding waitsFor hears sentText verdictText answerText turnBy
+turn-also = tt
+
 unfoldable values-compute : Unit {0}
-unfolding float-computes unit-computes digest-computes judge-computes filter-computes share-computes
+unfolding float-computes float-also unit-computes digest-computes judge-computes judge-also filter-computes filter-also share-computes
 values-compute = tt
 
 unfoldable lines-compute : Unit {0}
-unfolding field-computes text-computes plan-computes read-computes settle-computes step-computes turn-computes
+unfolding field-computes field-also text-computes read-computes read-also settle-computes settle-also
 lines-compute = tt
+
+unfoldable steps-compute : Unit {0}
+unfolding plan-computes plan-also step-computes step-also turn-computes turn-also
+steps-compute = tt
 
 -- every byte that comes out, for every byte that goes in
 pub session-bytes : station sessionInput ≡ sessionOutput
-unfolding values-compute lines-compute
+unfolding values-compute lines-compute steps-compute
 session-bytes = refl
 
 -- so these bytes are written for those, however they are cut into pieces and whatever buffers are lent

@@ -1,6 +1,5 @@
 -- THE CODE'S TURN IS THE DOCUMENT'S on a core in range: nothing is out of range, every message sent is written, and there is no third line. Assumes nothing.
 use Prim.Native.Nat.{ℕ}
-use native.Mathlib.Omega.{arith}
 use mathlib.Core.Path.{_≡_, refl, sym, ap, _∙_}
 use mathlib.Core.Bool.{true}
 use mathlib.Core.List.{List, _++_, append-nil}
@@ -10,6 +9,7 @@ use Rattle.units.specs.declared.refusal.Verdict.the-variants.{Taken, Refused}
 use Rattle.units.specs.declared.settings.Numbers.{Numbers}
 use Rattle.units.specs.Pick.{pick}
 use Rattle.units.specs.Settings.{numbersFit}
+use Rattle.units.proofs.Every.{absurd-by}
 use Rattle.message.specs.declared.head.Head.{Head}
 use Rattle.message.specs.declared.value.Message.{Message}
 use Rattle.message.specs.Message.{messageFits}
@@ -43,7 +43,7 @@ module _ (s : Numbers) (n : Controller) where
       → putText s n second v first ≡ sentText s n first ++ (sentText s n second ++ verdictText v)
   unfolding putText restText fitText sentText verdictText pick
   texts Nothing Nothing v fit order two = refl
-  texts Nothing (One k) v fit order two = let e = order refl in let z : _≡_ {A = ℕ} 0 1 = cc in absurd (omega arith)
+  texts Nothing (One k) v fit order two = let e = order refl in absurd-by (cc)
   texts (One h) Nothing v fit order two = rw (fit h (inl refl))
   texts (One h) (One k) v fit order two =
       rw (fit h (inl refl), fit k (inr refl), two k refl) (ap (λ (l : List ℕ). spellLine (s .group) (sentMessage s n h h) ++ l) (sym (append-nil (spellLine (s .group) (sentMessage s n k k)))))
