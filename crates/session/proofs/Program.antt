@@ -56,9 +56,12 @@ pub long-once : (c : Core) (line : List ℕ) → (c .stage ≡ AtSettings → �
 long-once c line p q f h = over-at c line (c .stage) p q f h
 
 -- "Before the first B another line that passes 1 to 6 is 9", and changes nothing
-pub waits-closed : (c : Core) (line : List ℕ) → c .stage ≡ Waiting → readLine (groupIn c) line .verdict ≡ Taken → asStart (spokenIn c line .head) ≡ none → turn c line ≡ refusing c Closed
+waits-at : (c : Core) (line : List ℕ) (stage : Stage) → stage ≡ Waiting → readLine (groupIn c) line .verdict ≡ Taken → asStart (spokenIn c line .head) ≡ none → turnBy stepping c line stage ≡ refusing c Closed
 unfolding turnBy hears
-waits-closed c line s v n = rw (s, v) (waits-other c (spokenIn c line .head) n)
+waits-at c line stage s v n = rw (s, v) (waits-other c (spokenIn c line .head) n)
+
+pub waits-closed : (c : Core) (line : List ℕ) → c .stage ≡ Waiting → readLine (groupIn c) line .verdict ≡ Taken → asStart (spokenIn c line .head) ≡ none → turn c line ≡ refusing c Closed
+waits-closed c line s v n = waits-at c line (c .stage) s v n
 
 -- B is what is waited for
 pub first-start : (c : Core) (line : List ℕ) (own : ℕ) (floor : RoundLabel) → c .stage ≡ Waiting → readLine (groupIn c) line .verdict ≡ Taken → spokenIn c line .head ≡ Start own floor

@@ -5,6 +5,7 @@ use mathlib.Core.Path.{sym, ap, _∙_}
 use mathlib.Core.List.{List}
 use lib.ListN.{length}
 use borrow.Author.Tests.{not-true, not-false}
+use Rattle.session.specs.declared.feed.Fed.{Fed}
 use Rattle.session.specs.declared.stage.Core.{Core}
 use Rattle.session.specs.Serving.{servedText}
 use Rattle.session.proofs.Room.{call-took, buffer-length}
@@ -103,7 +104,7 @@ returns-2 c =
     let g = code-goes (a .self) (a .input .now) (a .out .now) _ (f .ensures .1) (f .result) (f .ensures .0) m (r .run-lines .result) _ l in
     let w = r .run-lines .result in
     let y = f .result in
-    let n = ap (λ (k : Core). record { next = record { core = k; carry = y .next .carry }; took = y .took + w .took; wrote = y .wrote + w .wrote; verdict = y .verdict }) (c .before .before .running .ensures) in
+    let n = ap {B = Fed} (λ (k : Core). record { next = record { core = k; carry = y .next .carry }; took = y .took + w .took; wrote = y .wrote + w .wrote; verdict = y .verdict }) (c .before .before .running .ensures) in
     (n ∙ g .1, g .2)
 
 pub serve-spec : {M : Type 1} → statement M
