@@ -12,7 +12,7 @@ use Rattle.units.specs.declared.settings.Numbers.{Numbers}
 use Rattle.units.specs.Pick.{pick}
 use Rattle.message.specs.declared.head.Head.the-variants.{Start}
 use Rattle.fields.proofs.Cases.{by-test}
-use Rattle.lines.specs.Reading.{ended, readLine}
+use Rattle.lines.specs.Reading.{endedOnce, readLine}
 use Rattle.controller.specs.Start.{startOf}
 use Rattle.session.specs.declared.feed.Session.{Session}
 use Rattle.session.specs.declared.stage.Core.{Core}
@@ -168,7 +168,7 @@ module _ (s : Numbers) (meters : Meters) where
   sent-all x (before {w} e k m) = stays w x (sent-all x m) e
 
   -- ---- a session that is fed the same bytes
-  fed-same : {w : Stations} (run : OnwardStations s meters empty w) (i : ℕ) (c : Core) (l : Life) → w .up i ≡ some c → lives run i ≡ some l → ((x : List ℕ) → List·Memᴰ x (linesIn l) → ended x ≡ true)
+  fed-same : {w : Stations} (run : OnwardStations s meters empty w) (i : ℕ) (c : Core) (l : Life) → w .up i ≡ some c → lives run i ≡ some l → ((x : List ℕ) → List·Memᴰ x (linesIn l) → endedOnce x ≡ true)
       → {out : List ℕ} {y : Session} → Feeds sessionStart (inputOf (linesIn l)) out y → (y .core ≡ c) × (out ≡ l .wrote)
   fed-same {w} run i c l p q f d =
       let g = goes-of (w .up i) (lives run i) c l p q (all-stand run i) in

@@ -21,12 +21,12 @@ use Rattle.message.specs.Message.{plain}
 use Rattle.fields.proofs.Cases.{absurd-by}
 use Rattle.lines.specs.declared.kind.Found.the-variants.{Known}
 use Rattle.lines.specs.declared.read.Line.{Line}
-use Rattle.lines.specs.declared.settle.Answer.{Answer as Told}
-use Rattle.lines.specs.declared.settle.Answer.the-variants.{More, Whole as AllSettings, Refused as NoSettings}
+use Rattle.lines.specs.declared.settle.Standing.{Standing}
+use Rattle.lines.specs.declared.settle.Standing.the-variants.{More, Whole as AllSettings, Refused as NoSettings}
 use Rattle.lines.specs.declared.settle.Settling.{Settling}
 use Rattle.lines.specs.Reading.{readLine}
 use Rattle.lines.specs.Table.{letterOf, kindOf}
-use Rattle.lines.specs.Values.{kindIs, valuesOf}
+use Rattle.lines.specs.Values.{kindIs, numbersOf}
 use Rattle.lines.specs.Writing.{lineOf, spellLine, refusalLine}
 use Rattle.lines.proofs.RoundTrip.{line-feed, refusal-is}
 use Rattle.lines.proofs.Wire.{taken, textOf, line-accepted}
@@ -67,7 +67,7 @@ x-refused s why e =
 line-first : (s : Group) (a : Message) (rest : List ℕ) → linesOf (spellLine s a ++ rest) ≡ spellLine s a ∷ linesOf rest
 line-first s a rest =
     let p = line-feed s a in
-    let text : List ℕ = textOf (kindIs (a .head)) (valuesOf s a) in
+    let text : List ℕ = textOf (kindIs (a .head)) (numbersOf s a) in
     ap (λ (l : List ℕ). linesOf (l ++ rest)) (p .0) ∙ ap linesOf (append-assoc text (10 ∷ []) rest) ∙ lines-feed text rest (p .1) ∙ ap (λ (l : List ℕ). l ∷ linesOf rest) (sym (p .0))
 
 refusal-first : (s : Group) (why : Refusal) → linesOf (refusalLine why) ≡ refusalLine why ∷ []
@@ -190,7 +190,7 @@ waits-way c (Start own floor) = inr (own, floor, refl)
 waits-way c (Refused number) = inl (refl, refl)
 
 module _ (c : Core) where
-  settles-text : (next : Settling) (told : Told) → Text c (settlesTo c next told .text)
+  settles-text : (next : Settling) (told : Standing) → Text c (settlesTo c next told .text)
   unfolding settlesTo
   settles-text next More = silence
   settles-text next AllSettings = silence

@@ -5,7 +5,7 @@ use mathlib.Core.Bool.{true}
 use mathlib.Core.List.{List, [], _∷_, _++_, List·Memᴰ}
 use mathlib.Core.Option.{Option, none, some}
 use Rattle.units.specs.declared.settings.Numbers.{Numbers}
-use Rattle.lines.specs.Reading.{ended}
+use Rattle.lines.specs.Reading.{endedOnce}
 use Rattle.session.specs.declared.feed.Session.{Session}
 use Rattle.session.specs.declared.stage.Core.{Core}
 use Rattle.session.specs.Booting.{led, told, inputOf}
@@ -71,5 +71,5 @@ pub record ByTurns (s : Numbers) (meters : Meters) (w : Stations) (run : OnwardS
   pub sent-only : (x : List ℕ) → List·Memᴰ x (w .sent) → Written w run x
   pub sent-all : (x : List ℕ) → Written w run x → List·Memᴰ x (w .sent)
   -- where each line handed is one line, its only line feed last: a session that is fed all their bytes, in any pieces, comes to the same and writes the same
-  pub fed : (i : ℕ) (c : Core) (l : Life) → w .up i ≡ some c → lives run i ≡ some l → ((x : List ℕ) → List·Memᴰ x (linesIn l) → ended x ≡ true)
+  pub fed : (i : ℕ) (c : Core) (l : Life) → w .up i ≡ some c → lives run i ≡ some l → ((x : List ℕ) → List·Memᴰ x (linesIn l) → endedOnce x ≡ true)
       → {out : List ℕ} {y : Session} → Feeds sessionStart (inputOf (linesIn l)) out y → (y .core ≡ c) × (out ≡ l .wrote)

@@ -8,9 +8,9 @@ use libc::STDIN_FILENO;
 use libc::STDOUT_FILENO;
 use lines::read::read;
 use lines::setting::write_setting;
-use lines::settle::Answer;
 use lines::settle::Settled;
 use lines::settle::Settling;
+use lines::settle::Standing;
 use lines::write::Written;
 use lines::write::write;
 use lines::write::write_plain;
@@ -320,14 +320,14 @@ fn tell_lines(settings: Settings) {
 fn tell_settled(settled: Settled) {
     let answer = settled.answer;
     match answer {
-        Answer::More => say(b"more\n"),
-        Answer::Whole => {
+        Standing::More => say(b"more\n"),
+        Standing::Whole => {
             let next = settled.next;
             let settings = next.settings();
             tell_settings(settings);
             tell_lines(settings);
         }
-        Answer::Refused(why) => tell_refusal(why),
+        Standing::Refused(why) => tell_refusal(why),
     }
 }
 
@@ -442,7 +442,7 @@ fn take(what: u8, m: usize, line: &[u8], settling: Settling) -> Settling {
             next
         }
         b'T' => {
-            tell_refusal(settling.ended());
+            tell_refusal(settling.missing());
             settling
         }
         b'X' => {

@@ -15,12 +15,12 @@ use Rattle.message.specs.declared.head.Head.{Head}
 use Rattle.message.specs.declared.head.Head.the-variants.{Reading, Query, Reply, Advert, Update, Vote, Setpoints, Due, CollectingEnds, VotingEnds, Floor, Start, Refused}
 use Rattle.message.specs.Head.{carried}
 use Rattle.fields.proofs.Cases.{by-test}
-use Rattle.lines.specs.declared.numbers.Numbers.{Numbers}
+use Rattle.lines.specs.declared.numbers.LineNumbers.{LineNumbers}
 use Rattle.lines.specs.Lists.{joined}
 use Rattle.lines.specs.Values.{headValues, rawOf}
 
 -- THE HEAD
-pub numbers-in : {head k : Head} (n : ℕ) {vs : List ℕ} (r : Numbers) → head ≡ k → (r .n ≡ n) × (take n (r .v) ≡ vs) × (length (r .v) ≡ 34) → vs ≡ headValues k → n ≡ length vs
+pub numbers-in : {head k : Head} (n : ℕ) {vs : List ℕ} (r : LineNumbers) → head ≡ k → (r .n ≡ n) × (take n (r .v) ≡ vs) × (length (r .v) ≡ 34) → vs ≡ headValues k → n ≡ length vs
     → (r .n ≡ length (headValues head)) × (take (r .n) (r .v) ≡ headValues head) × (length (r .v) ≡ 34)
 numbers-in n r e h w l = rw (e, ← w, h .0) (l, h .1, h .2)
 

@@ -32,17 +32,17 @@ use Rattle.fields.proofs.Cases.{by-test, by-lt, absurd-by}
 use Rattle.lines.specs.declared.kind.Found.the-variants.{Known, Unknown}
 use Rattle.lines.specs.declared.kind.Kind.{Kind}
 use Rattle.lines.specs.declared.kind.Kind.the-variants.{Refused as OfX, Sizes, Filter, Run}
-use Rattle.lines.specs.declared.settle.Answer.{Answer}
-use Rattle.lines.specs.declared.settle.Answer.the-variants.{More, Whole, Refused}
+use Rattle.lines.specs.declared.settle.Standing.{Standing}
+use Rattle.lines.specs.declared.settle.Standing.the-variants.{More, Whole, Refused}
 use Rattle.lines.specs.declared.settle.Settled.{Settled}
 use Rattle.lines.specs.declared.settle.Settling.{Settling}
 use Rattle.lines.specs.declared.write.Written.the-variants.{Refused as NotWritten}
 use Rattle.lines.specs.Answers.{WriterSays, xLine, Taking, begun, more, runsRead, Waiting, Fifteen, SettlingSays, goes-on, is-whole, refuses, SettingsRefused}
 use Rattle.lines.specs.Lists.{column}
-use Rattle.lines.specs.Reading.{Got, values, stop, refusedLine, readText, readLine, readValues, readBy, ended}
-use Rattle.lines.specs.Settling.{started, stopped, kept, answerAt, keptValues, afterField, turnOf, anyGroup, settlePlain, settleWeight, settleFactor, settleCertificate, settleRun, expecting, settleText, settleLine, settleOn, settleAll, missing, isKind, withSizes, withFilter, runWith, certificateOf}
+use Rattle.lines.specs.Reading.{Got, values, stop, refusedLine, readText, readLine, readValues, readBy, endedOnce}
+use Rattle.lines.specs.Settling.{settlingStart, stopped, kept, standingAt, keptValues, afterField, turnOf, anyGroup, settlePlain, settleWeight, settleFactor, settleCertificate, settleRun, expecting, settleText, settleLine, settleOn, settleAll, missing, isKind, withSizes, withFilter, runWith, certificateOf}
 use Rattle.lines.specs.Table.{kindOf, letterOf, quantityAt, limitOf, runsOf}
-use Rattle.lines.specs.Values.{kindIs, headValues, valuesOf as numbersOf}
+use Rattle.lines.specs.Values.{kindIs, headValues, numbersOf}
 use Rattle.lines.specs.Writing.{lineOf, spellLine, refusalLine, answerOf, bufferOf, writeAnswer, writeBuffer, plainFits, writtenNumber, writtenValues}
 use Rattle.lines.proofs.Plain.{plain-values}
 use Rattle.lines.proofs.Meaning.{meaning}
@@ -112,7 +112,7 @@ x-unread s line a n e h =
     let r : kindOf (letterOf OfX) ≡ Known OfX = rw (← x) at (c .readable) in absurd-by (cc)
 
 -- "After the settings a line X, G, N or K is 3", and so is a line of any other letter that is no message's
-pub read-kind : (s : Group) (line : List ℕ) (c : ℕ) → groupFits s ≡ true → length line ≤ lineTop → ended line ≡ true → firstField (until lineFeed line) ≡ c ∷ [] → kindOf c ≡ Unknown → readLine s line ≡ refusedLine NoKind
+pub read-kind : (s : Group) (line : List ℕ) (c : ℕ) → groupFits s ≡ true → length line ≤ lineTop → endedOnce line ≡ true → firstField (until lineFeed line) ≡ c ∷ [] → kindOf c ≡ Unknown → readLine s line ≡ refusedLine NoKind
 unfolding readLine readText pick
 read-kind s line c g l e f k = rw (g, le-leb (length line) lineTop l, e, f, k)
 
@@ -121,7 +121,7 @@ unfolding kindOf pick
 only-settings = (refl, refl, refl, refl)
 
 -- THE SETTINGS' 15. What a line leads to where it is refused: nothing is taken in, and the reason is 1 to 6
-unfoldable Stops : Settling → Answer → Settling → Type 0
+unfoldable Stops : Settling → Standing → Settling → Type 0
 Stops st More next = Unit {0}
 Stops st Whole next = Unit {0}
 Stops st (Refused why) next = Fifteen (st .line) why × (next ≡ st)
@@ -180,10 +180,10 @@ module _ (st : Settling) where
   by-line line = by-pick _ _ _ (by-pick _ _ _ (by-text _) (by-early Unended refl)) (by-early Long refl)
 
 -- what a taken line leads to, in its turn
-record Next (st next : Settling) (a : Answer) : Type 0 where
+record Next (st next : Settling) (a : Standing) : Type 0 where
   pub line : next .line ≡ st .line + 1
   pub turn : st .line ≤ 2 + runsRead next
-  pub answer : a ≡ answerAt (st .line) (runsRead next)
+  pub answer : a ≡ standingAt (st .line) (runsRead next)
   pub runs : runsRead next ≤ 16
   pub some : 1 ≤ runsRead next
 
@@ -212,7 +212,7 @@ module _ (st : Settling) (w : Waiting st) (line : List ℕ) (t : takes (settleLi
 
 -- settings that want more wait for a line of 1 to 2 + m
 pub waiting : {st : Settling} → Taking st → Waiting st
-unfolding started pick
+unfolding settlingStart pick
 waiting begun = record { first = omega arith; last = omega arith; runs = omega arith; sized = λ h. absurd (omega arith) }
 waiting (more {st} line k e) =
     let w = waiting k in
@@ -225,7 +225,7 @@ waiting (more {st} line k e) =
       sized = λ h. n .some;
     }
   where
-    not-whole-at : (line m : ℕ) → answerAt line m ≡ More → line ≡ 2 + m → ⊥
+    not-whole-at : (line m : ℕ) → standingAt line m ≡ More → line ≡ 2 + m → ⊥
     not-whole-at line m e h = let z : Whole ≡ More = rw (eq-eqb line (2 + m) h) at e in absurd-by (cc)
 
 -- EVERY ANSWER of a line that is handed to settings that want more, by number and values
@@ -242,7 +242,7 @@ says-taken st r t n =
 says-refused : (st : Settling) (r : Settled) (why : Refusal) → r .answer ≡ Refused why → Fifteen (st .line) why × (r .next ≡ st) → SettlingSays st r
 says-refused st r why e f = let x = f .0 in refuses (x .reason) (rw e (x .number)) (rw e (x .values)) (x .low) (x .high) (f .1)
 
-stops-at : (st : Settling) (a : Answer) (next : Settling) (why : Refusal) → a ≡ Refused why → Stops st a next → Fifteen (st .line) why × (next ≡ st)
+stops-at : (st : Settling) (a : Standing) (next : Settling) (why : Refusal) → a ≡ Refused why → Stops st a next → Fifteen (st .line) why × (next ≡ st)
 unfolding Stops
 stops-at st a next why e s = rw e at s
 
@@ -253,7 +253,7 @@ stops-by st line why e = stops-at st (settleLine st line .answer) (settleLine st
 pub settling-says : {st : Settling} → Taking st → (line : List ℕ) → SettlingSays st (settleLine st line)
 settling-says {st} k line = by-answer (settleLine st line .answer) refl
   where
-    by-answer : (a : Answer) → settleLine st line .answer ≡ a → SettlingSays st (settleLine st line)
+    by-answer : (a : Standing) → settleLine st line .answer ≡ a → SettlingSays st (settleLine st line)
     by-answer More e = says-taken st _ (ap takes e) (next-is st (waiting k) line (ap takes e))
     by-answer Whole e = says-taken st _ (ap takes e) (next-is st (waiting k) line (ap takes e))
     by-answer (Refused why) e = says-refused st _ why e (stops-by st line why e)
@@ -267,7 +267,7 @@ same-fifteen : (line : ℕ) (a b : Refusal) → Refused a ≡ Refused b → Fift
 same-fifteen line a b e f = let z : a ≡ b = cc in subst (Fifteen line) z f
 
 settle-next : (go : Settling → Settled) (st : Settling) (l : List ℕ) → Taking st → ((next : Settling) → Taking next → (why : Refusal) → go next .answer ≡ Refused why → SettingsRefused (go next .next) why)
-    → (a : Answer) → settleLine st l .answer ≡ a → (why : Refusal) → settleOn go (settleLine st l .next) a .answer ≡ Refused why → SettingsRefused (settleOn go (settleLine st l .next) a .next) why
+    → (a : Standing) → settleLine st l .answer ≡ a → (why : Refusal) → settleOn go (settleLine st l .next) a .answer ≡ Refused why → SettingsRefused (settleOn go (settleLine st l .next) a .next) why
 settle-next go st l k rec More e why z = rec (settleLine st l .next) (more l k e) why z
 settle-next go st l k rec Whole e why z = absurd-by (cc)
 settle-next go st l k rec (Refused w) e why z =
@@ -279,5 +279,5 @@ unfolding settleAll
 settle-from [] st k why e = record { said = same-fifteen (st .line) (missing st) why e (missing-says st); at = waiting k }
 settle-from (l ∷ ls) st k why e = settle-next (settleAll ls) st l k (settle-from ls) (settleLine st l .answer) refl why e
 
-pub settle-reasons : (lines : List (List ℕ)) (why : Refusal) → settleAll lines started .answer ≡ Refused why → SettingsRefused (settleAll lines started .next) why
-settle-reasons lines why e = settle-from lines started begun why e
+pub settle-reasons : (lines : List (List ℕ)) (why : Refusal) → settleAll lines settlingStart .answer ≡ Refused why → SettingsRefused (settleAll lines settlingStart .next) why
+settle-reasons lines why e = settle-from lines settlingStart begun why e

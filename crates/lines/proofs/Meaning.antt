@@ -28,7 +28,7 @@ use Rattle.lines.specs.declared.kind.Kind.the-variants.{Reading as OfRea
 use Rattle.lines.specs.declared.table.Quantity.the-variants.{Raw, X, Variance, Target}
 use Rattle.lines.specs.Lists.{joined}
 use Rattle.lines.specs.Table.{kindOf, quantityAt, countOf, runsOf}
-use Rattle.lines.specs.Values.{headOf, messageWith, messageOf, kindIs, headValues, valuesOf}
+use Rattle.lines.specs.Values.{headOf, messageWith, messageOf, kindIs, headValues, numbersOf}
 use Rattle.lines.proofs.Arrays.{word-is, rank, rawAt, floatsAt, targetAt, readings-fit, estimates-fit, targets-fit, raws-again, floats-again, targets-again, raws-front, floats-front, targets-front, rank-mono, rank-suc}
 use Rattle.lines.proofs.Quantities.{round-said, state-said, sender-said, run-said, base-said, mask-said, raw-said, x-said, variance-said, target-said}
 use Rattle.lines.proofs.Sending.{group-runs}
@@ -37,7 +37,7 @@ use Rattle.lines.proofs.Wire.{Readable}
 
 pub record Meant (k : Kind) (s : Group) (vs : List ℕ) : Type 0 where
   pub fits : messageFits s (messageOf s k vs) ≡ true
-  pub back : valuesOf s (messageOf s k vs) ≡ vs
+  pub back : numbersOf s (messageOf s k vs) ≡ vs
   pub kind : kindIs (messageOf s k vs .head) ≡ k
 
 -- LISTS OF A KNOWN LENGTH
@@ -83,8 +83,8 @@ module _ (k : Kind) (s : Group) (vs : List ℕ) (g : groupFits s ≡ true) (h : 
   unfolding messageFits messageWith
   with-fits = rw (g, hf, readings-fit (carried s h .readings) vs ra, estimates-fit (carried s h .estimates) vs fl, targets-fit (carried s h .targets) vs ta)
 
-  with-back : valuesOf s (messageWith s h vs) ≡ vs
-  unfolding valuesOf messageWith
+  with-back : numbersOf s (messageWith s h vs) ≡ vs
+  unfolding numbersOf messageWith
   with-back = rw (raws-again (carried s h .readings) vs ra, floats-again (carried s h .estimates) vs fe fl, targets-again (carried s h .targets) vs te ta) all
 
   with-kind : kindIs (messageWith s h vs .head) ≡ k

@@ -10,12 +10,12 @@ use Rattle.message.specs.Head.{carry, carried, headFits, isPlain}
 use Rattle.message.specs.Message.{plain, messageFits}
 use Rattle.message.proofs.Plain.{carries-none, plain-fit}
 use Rattle.lines.specs.Lists.{joined}
-use Rattle.lines.specs.Values.{headValues, valuesOf}
+use Rattle.lines.specs.Values.{headValues, numbersOf}
 use Rattle.lines.specs.Writing.{plainFits}
 use Rattle.lines.proofs.Adding.{no-raws}
 
-pub head-alone : (s : Group) (a : Message) → carried s (a .head) ≡ carry 0 0 0 → valuesOf s a ≡ headValues (a .head)
-unfolding valuesOf joined
+pub head-alone : (s : Group) (a : Message) → carried s (a .head) ≡ carry 0 0 0 → numbersOf s a ≡ headValues (a .head)
+unfolding numbersOf joined
 head-alone s a e = rw (e, no-raws (a .readings) 16, append-nil (headValues (a .head)))
 
 module _ (s : Group) (head : Head) where
@@ -24,7 +24,7 @@ module _ (s : Group) (head : Head) where
   unfolding plainFits
   plain-same e = ap (λ (b : Bool). b && messageFits s (plain head)) e
 
-  pub plain-values : isPlain head ≡ true → headValues head ≡ valuesOf s (plain head)
+  pub plain-values : isPlain head ≡ true → headValues head ≡ numbersOf s (plain head)
   unfolding plain
   plain-values e = sym (head-alone s (plain head) (carries-none s head e))
 

@@ -27,7 +27,7 @@ use Rattle.lines.specs.declared.kind.Kind.{Kind}
 use Rattle.lines.specs.declared.read.Line.{Line}
 use Rattle.lines.specs.declared.settle.Settling.{Settling}
 use Rattle.lines.specs.declared.table.Limit.{Limit}
-use Rattle.lines.specs.Reading.{Got, values, stop, limitAfter, readBy, onward, readAll, readRest, readValues, refusedLine, lineWith, kindIn, readKnown, readText, ended, readLine}
+use Rattle.lines.specs.Reading.{Got, values, stop, limitAfter, readBy, onward, readAll, readRest, readValues, refusedLine, lineWith, kindIn, readKnown, readText, endedOnce, readLine}
 use Rattle.lines.specs.Settling.{stopped, settleLine}
 use Rattle.lines.specs.Table.{countOf}
 use Rattle.lines.proofs.Openings.{line-group, line-long, line-unended}
@@ -110,7 +110,7 @@ pick-line false a b p q = q
 read-early : (s : Group) (line : List ℕ) → VerdictEarly (readLine s line .verdict)
 unfolding readLine readText
 read-early s line =
-    pick-line (groupFits s) _ _ (pick-line (leb (length line) lineTop) _ _ (pick-line (ended line) _ _ (known-early s _ (kindIn (firstField (until lineFeed line)))) refl) refl) refl
+    pick-line (groupFits s) _ _ (pick-line (leb (length line) lineTop) _ _ (pick-line (endedOnce line) _ _ (known-early s _ (kindIn (firstField (until lineFeed line)))) refl) refl) refl
 
 pub reader-refuses : (s : Group) (line : List ℕ) (why : Refusal) → readLine s line .verdict ≡ Refused why → within 1 6 (numberOf why) ≡ true
 reader-refuses s line why e = subst VerdictEarly e (read-early s line)

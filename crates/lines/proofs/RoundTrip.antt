@@ -22,7 +22,7 @@ use Rattle.lines.specs.declared.read.Line.{Line}
 use Rattle.lines.specs.declared.write.Written.the-variants.{Done}
 use Rattle.lines.specs.Lists.{joined}
 use Rattle.lines.specs.Reading.{readLine}
-use Rattle.lines.specs.Values.{messageOf, kindIs, headValues, valuesOf, rawOf, floatsOf, targetOf}
+use Rattle.lines.specs.Values.{messageOf, kindIs, headValues, numbersOf, rawOf, floatsOf, targetOf}
 use Rattle.lines.specs.Writing.{lineOf, spellLine, refusalLine, writeAnswer, writeBuffer}
 use Rattle.lines.proofs.Adding.{no-raws, roomy}
 use Rattle.lines.proofs.Arrays.{floats-length, targets-count}
@@ -37,7 +37,7 @@ unfolding spellLine
 read-write s a f x =
     let F = message-fits s a f in
     let w = saying s a (a .head) refl x F in
-    line-back (kindIs (a .head)) s (valuesOf s a) (F .group) (readable (a .head) x) (w .fit) ∙ ap taken (w .back)
+    line-back (kindIs (a .head)) s (numbersOf s a) (F .group) (readable (a .head) x) (w .fit) ∙ ap taken (w .back)
 
 -- WHATEVER IS ACCEPTED is spelled exactly as the writer writes it, and is in range
 pub record Spelt (s : Group) (line : List ℕ) (a : Message) : Type 0 where
@@ -60,8 +60,8 @@ read-fits s line e = line-only s line (readLine s line .message) (whole (readLin
     whole l d = rw (← d)
 
 -- HOW LONG A LINE IS
-values-few : (s : Group) (a : Message) → messageFits s a ≡ true → length (valuesOf s a) ≤ 34
-unfolding valuesOf
+values-few : (s : Group) (a : Message) → messageFits s a ≡ true → length (numbersOf s a) ≤ 34
+unfolding numbersOf
 values-few s a f =
     let R = joined (rawOf (carried s (a .head) .readings) (a .readings)) 16 in
     let E = joined (floatsOf (a .estimates)) (carried s (a .head) .estimates) in
@@ -77,7 +77,7 @@ values-few s a f =
 
 pub write-room : (s : Group) (a : Message) → messageFits s a ≡ true → length (spellLine s a) ≤ lineTop
 unfolding spellLine
-write-room s a f = line-short (kindIs (a .head)) (valuesOf s a) (values-few s a f)
+write-room s a f = line-short (kindIs (a .head)) (numbersOf s a) (values-few s a f)
 
 pub refusal-room : (why : Refusal) → length (refusalLine why) ≤ lineTop
 unfolding refusalLine
@@ -92,11 +92,11 @@ write-done s a buf f h =
     rw (f, le-ltb (length buf) (length (spellLine s a)) l) (refl, refl)
 
 -- and it ends in its only line feed
-pub line-feed : (s : Group) (a : Message) → (spellLine s a ≡ textOf (kindIs (a .head)) (valuesOf s a) ++ (10 ∷ [])) × (lacks 10 (textOf (kindIs (a .head)) (valuesOf s a)) ≡ true)
+pub line-feed : (s : Group) (a : Message) → (spellLine s a ≡ textOf (kindIs (a .head)) (numbersOf s a) ++ (10 ∷ [])) × (lacks 10 (textOf (kindIs (a .head)) (numbersOf s a)) ≡ true)
 unfolding spellLine
-line-feed s a = line-ends (kindIs (a .head)) (valuesOf s a)
+line-feed s a = line-ends (kindIs (a .head)) (numbersOf s a)
 
 -- the line of a refusal is that of the message X
 pub refusal-is : (s : Group) (why : Refusal) → refusalLine why ≡ spellLine s (plain (Refused (numberOf why)))
-unfolding refusalLine spellLine plain valuesOf kindIs headValues carried joined
+unfolding refusalLine spellLine plain numbersOf kindIs headValues carried joined
 refusal-is s why = rw (no-raws _ 16)

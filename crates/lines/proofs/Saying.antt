@@ -35,7 +35,7 @@ use Rattle.lines.specs.declared.kind.Kind.the-variants.{Reading as OfRea
 use Rattle.lines.specs.declared.kind.Found.the-variants.{Known}
 use Rattle.lines.specs.Lists.{joined}
 use Rattle.lines.specs.Table.{letterOf, kindOf, quantityAt, limitOf, countOf, runsOf}
-use Rattle.lines.specs.Values.{word, headOf, messageOf, kindIs, headValues, valuesOf, rawOf, floatsOf, targetOf}
+use Rattle.lines.specs.Values.{word, headOf, messageOf, kindIs, headValues, numbersOf, rawOf, floatsOf, targetOf}
 use Rattle.lines.proofs.Adding.{no-raws}
 use Rattle.lines.proofs.Plain.{head-alone}
 use Rattle.lines.proofs.Arrays.{word-is, rank, reading-range, readings-back, estimates-back, targets-back, raws-length, raws-at, floats-length, floats-at, targets-count, target-at}
@@ -46,8 +46,8 @@ use Rattle.lines.proofs.Sending.{Fits, group-runs}
 use Rattle.lines.proofs.Spelled.{Fit, FitsAt, fitsBy, fits-all}
 
 pub record Said (k : Kind) (s : Group) (a : Message) : Type 0 where
-  pub fit : Fit k s (valuesOf s a)
-  pub back : messageOf s k (valuesOf s a) ≡ a
+  pub fit : Fit k s (numbersOf s a)
+  pub back : messageOf s k (numbersOf s a) ≡ a
 
 below-one : (P : ℕ → Type 0) → P 0 → (i : ℕ) → i < 1 → P i
 below-one P p zero h = p
@@ -87,7 +87,7 @@ module _ (k : Kind) (s : Group) (a : Message) (F : Fits s a) (h : Head) (e : a .
 -- A HEAD THAT CARRIES NOTHING
 module _ (k : Kind) (s : Group) (a : Message) (F : Fits s a) (h : Head) (e : a .head ≡ h) (ce : carried s h ≡ carry 0 0 0) (vs : List ℕ) (ve : headValues h ≡ vs)
     (he : headOf k (getD vs 0 0) (getD vs 1 0) (getD vs 2 0) (getD vs 3 0) ≡ h) (n : length vs ≡ countOf k s (getD vs 2 0)) (r : eqb (letterOf k) 75 ≡ false) (f : FitsAt k s vs) where
-  plain-values : valuesOf s a ≡ vs
+  plain-values : numbersOf s a ≡ vs
   plain-values = head-alone s a (rw e ce) ∙ rw e ve
 
   said-plain : Said k s a
@@ -239,8 +239,8 @@ module _ (s : Group) (a : Message) (F : Fits s a) (sender : ℕ) (label : RoundL
   numbers : List ℕ
   numbers = (sender ∷ label .0 ∷ mask ∷ []) ++ raws
 
-  reply-values : valuesOf s a ≡ numbers
-  unfolding valuesOf joined headValues carried raws numbers
+  reply-values : numbersOf s a ≡ numbers
+  unfolding numbersOf joined headValues carried raws numbers
   reply-values = rw (e, append-nil (joined (rawOf mask (a .readings)) 16))
 
   readings-in : readingsFit mask (a .readings) ≡ true
@@ -299,8 +299,8 @@ module _ (s : Group) (a : Message) (F : Fits s a) (sender : ℕ) (state : StateL
   update-numbers : List ℕ
   update-numbers = (sender ∷ state .0 ∷ []) ++ floats
 
-  update-values : valuesOf s a ≡ update-numbers
-  unfolding valuesOf joined headValues carried floats update-numbers
+  update-values : numbersOf s a ≡ update-numbers
+  unfolding numbersOf joined headValues carried floats update-numbers
   update-values = rw (e, no-raws (a .readings) 16, append-nil (joined (floatsOf (a .estimates)) (s .m)))
 
   estimates-in : stateFits (s .m) (a .estimates) ≡ true
@@ -369,8 +369,8 @@ module _ (s : Group) (a : Message) (F : Fits s a) (sender : ℕ) (label : RoundL
   setpoints-numbers : List ℕ
   setpoints-numbers = heads ++ shares
 
-  setpoints-values : valuesOf s a ≡ setpoints-numbers
-  unfolding valuesOf joined headValues carried shares heads setpoints-numbers
+  setpoints-values : numbersOf s a ≡ setpoints-numbers
+  unfolding numbersOf joined headValues carried shares heads setpoints-numbers
   setpoints-values = rw (e, no-raws (a .readings) 16)
 
   targets-in : targetsFit (s .m) (a .targets) ≡ true

@@ -24,11 +24,11 @@ use Rattle.message.specs.Message.{messageFits}
 use Rattle.message.specs.Readings.{readingsFit}
 use Rattle.lines.specs.declared.kind.Kind.{Kind}
 use Rattle.lines.specs.declared.kind.Kind.the-variants.{Refused as OfRefused}
-use Rattle.lines.specs.declared.numbers.Numbers.{Numbers}
+use Rattle.lines.specs.declared.numbers.LineNumbers.{LineNumbers}
 use Rattle.lines.specs.declared.write.Written.{Written}
 use Rattle.lines.specs.declared.write.Written.the-variants.{Refused}
 use Rattle.lines.specs.Lists.{joined}
-use Rattle.lines.specs.Values.{kindIs, headValues, rawOf, floatsOf, targetOf, valuesOf}
+use Rattle.lines.specs.Values.{kindIs, headValues, rawOf, floatsOf, targetOf, numbersOf}
 use Rattle.lines.specs.Writing.{lineOf, spellLine, refusalLine, answerOf, bufferOf, writeAnswer, writeBuffer}
 use Rattle.lines.proofs.Adding.{Roomy, roomy}
 
@@ -80,24 +80,24 @@ module _ (s : Group) (a : Message) (fit : messageFits s a ≡ true) (c : Carried
   all-few : length (headValues (a .head) ++ joined (rawOf (c .readings) (a .readings)) 16) + 2 * c .estimates + c .targets ≤ 34
   all-few = rw ce (room .all)
 
-  module _ (h : Numbers) (he : (h .n ≡ length (headValues (a .head))) × (take (h .n) (h .v) ≡ headValues (a .head)) × (length (h .v) ≡ 34)) where
+  module _ (h : LineNumbers) (he : (h .n ≡ length (headValues (a .head))) × (take (h .n) (h .v) ≡ headValues (a .head)) × (length (h .v) ≡ 34)) where
     pub head-few : (h .n ≤ 4) × (length (h .v) ≡ 34)
     head-few = (let l = room .head in let e = he .0 in omega arith, he .2)
 
-    module _ (r : Numbers) (re : (r .n ≡ length (take (h .n) (h .v) ++ joined (rawOf (c .readings) (a .readings)) 16)) × (take (r .n) (r .v) ≡ take (h .n) (h .v) ++ joined (rawOf (c .readings) (a .readings)) 16) × (length (r .v) ≡ 34)) where
+    module _ (r : LineNumbers) (re : (r .n ≡ length (take (h .n) (h .v) ++ joined (rawOf (c .readings) (a .readings)) 16)) × (take (r .n) (r .v) ≡ take (h .n) (h .v) ++ joined (rawOf (c .readings) (a .readings)) 16) × (length (r .v) ≡ 34)) where
       raws-count : r .n ≡ length (headValues (a .head) ++ joined (rawOf (c .readings) (a .readings)) 16)
       raws-count = re .0 ∙ rw (he .1)
 
       pub raws-few : (r .n + 2 * c .estimates ≤ 34) × (c .estimates ≤ 16) × (length (r .v) ≡ 34)
       raws-few = (let l = all-few in let e = raws-count in omega arith, estimates-few, re .2)
 
-      module _ (x : Numbers) (xe : (x .n ≡ r .n + 2 * c .estimates) × (take (x .n) (x .v) ≡ take (r .n) (r .v) ++ joined (floatsOf (a .estimates)) (c .estimates)) × (length (x .v) ≡ 34)) where
+      module _ (x : LineNumbers) (xe : (x .n ≡ r .n + 2 * c .estimates) × (take (x .n) (x .v) ≡ take (r .n) (r .v) ++ joined (floatsOf (a .estimates)) (c .estimates)) × (length (x .v) ≡ 34)) where
         pub floats-few : (x .n + c .targets ≤ 34) × (c .targets ≤ 16) × (length (x .v) ≡ 34)
         floats-few = (let l = all-few in let e = raws-count in let f = xe .0 in omega arith, targets-few, xe .2)
 
-        pub all-numbers : (y : Numbers) → (y .n ≡ x .n + c .targets) × (take (y .n) (y .v) ≡ take (x .n) (x .v) ++ joined (targetOf (a .targets)) (c .targets)) × (length (y .v) ≡ 34)
-            → (take (y .n) (y .v) ≡ valuesOf s a) × (y .n ≤ 34) × (length (y .v) ≡ 34)
-        unfolding valuesOf
+        pub all-numbers : (y : LineNumbers) → (y .n ≡ x .n + c .targets) × (take (y .n) (y .v) ≡ take (x .n) (x .v) ++ joined (targetOf (a .targets)) (c .targets)) × (length (y .v) ≡ 34)
+            → (take (y .n) (y .v) ≡ numbersOf s a) × (y .n ≤ 34) × (length (y .v) ≡ 34)
+        unfolding numbersOf
         all-numbers y ye =
             let R = joined (rawOf (c .readings) (a .readings)) 16 in
             let E = joined (floatsOf (a .estimates)) (c .estimates) in
@@ -118,7 +118,7 @@ module _ (fit b : Bool) (be : b ≡ fit) (text buf : List ℕ) where
   unfolding writeAnswer writeBuffer pick
   write-put t line r d e h = rw (← be, t, e) h
 
-pub spelled : (s : Group) (a : Message) (k : Kind) (vs : List ℕ) → k ≡ kindIs (a .head) → vs ≡ valuesOf s a → spellLine s a ≡ lineOf k vs
+pub spelled : (s : Group) (a : Message) (k : Kind) (vs : List ℕ) → k ≡ kindIs (a .head) → vs ≡ numbersOf s a → spellLine s a ≡ lineOf k vs
 unfolding spellLine
 spelled s a k vs ke ve = rw (ke, ve)
 

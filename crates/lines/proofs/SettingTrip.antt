@@ -24,11 +24,11 @@ use Rattle.fields.proofs.Texts.{text-only, fields-back, tabbed-lacks, lacks-app
 use Rattle.fields.proofs.Scans.{feed-last}
 use Rattle.lines.specs.declared.kind.Kind.{Kind}
 use Rattle.lines.specs.declared.kind.Kind.the-variants.{Sizes, Filter, Run}
-use Rattle.lines.specs.declared.settle.Answer.{Answer}
-use Rattle.lines.specs.declared.settle.Answer.the-variants.{More, Whole, Refused}
+use Rattle.lines.specs.declared.settle.Standing.{Standing}
+use Rattle.lines.specs.declared.settle.Standing.the-variants.{More, Whole, Refused}
 use Rattle.lines.specs.declared.settle.Settling.{Settling}
 use Rattle.lines.specs.declared.table.Limit.{Limit}
-use Rattle.lines.specs.Reading.{Got, values, stop, readBy, readValues, ended}
+use Rattle.lines.specs.Reading.{Got, values, stop, readBy, readValues, endedOnce}
 use Rattle.lines.specs.Settings.{runNumber, runLine}
 use Rattle.lines.specs.Settling.{kept, withSizes, withFilter, runWith, certificateOf, turnOf, anyGroup, keptValues, settlePlain, afterField, settleWeight, settleFactor, settleCertificate, settleRun, isKind, expecting, settleText, settleLine}
 use Rattle.lines.specs.Table.{letterOf, quantityAt, spellingOf, limitFor, limitOf, runsOf}
@@ -38,21 +38,21 @@ use Rattle.lines.proofs.Spelled.{Fit, fitsBy, spelling-is, values-only,
 use Rattle.lines.proofs.Wire.{textOf, feed-at, ended-line, first-is-letter, later-are-texts, line-short, letter-lacks, written-lacks}
 
 -- whether a line was taken
-abbrev pub takes : Answer → Bool
+abbrev pub takes : Standing → Bool
 takes More = true
 takes Whole = true
 takes (Refused why) = false
 
 -- THE FRAME of every settings line
-line-of : (st : Settling) (line text : List ℕ) → length line ≤ 600 → ended line ≡ true → until 10 line ≡ text → settleLine st line ≡ settleText st text
+line-of : (st : Settling) (line text : List ℕ) → length line ≤ 600 → endedOnce line ≡ true → until 10 line ≡ text → settleLine st line ≡ settleText st text
 unfolding settleLine pick
 line-of st line text l e t = rw (le-leb (length line) 600 l, e, t)
 
-opened : (st : Settling) (line : List ℕ) → takes (settleLine st line .answer) ≡ true → (leb (length line) 600 ≡ true) × (ended line ≡ true)
+opened : (st : Settling) (line : List ℕ) → takes (settleLine st line .answer) ≡ true → (leb (length line) 600 ≡ true) × (endedOnce line ≡ true)
 unfolding settleLine pick
 opened st line =
     by-test (leb (length line) 600)
-    (λ a. rw a (by-test (ended line) (λ b. rw b (λ e. (refl, refl))) (λ b. rw b (λ e. no-way e))))
+    (λ a. rw a (by-test (endedOnce line) (λ b. rw b (λ e. (refl, refl))) (λ b. rw b (λ e. no-way e))))
     (λ a. rw a (λ e. no-way e))
 
 pub record Framed (st : Settling) (line : List ℕ) : Type 0 where
@@ -224,7 +224,7 @@ module _ (st : Settling) (n₁ : st .line ≡ 1 → ⊥) (n₂ : st .line ≡ 2 
         let d = certificate-long cs (F .certificate) in
         simp length-append (omega arith)
 
-    k-ended : ended (runLine (turnOf st) cs factor weight) ≡ true
+    k-ended : endedOnce (runLine (turnOf st) cs factor weight) ≡ true
     k-ended = eq-eqb (length (until 10 (runLine (turnOf st) cs factor weight)) + 1) (length (runLine (turnOf st) cs factor weight)) (rw (k-until, k-text) (sym (length-append text (10 ∷ []))))
 
     pub run-back : settleLine st (runLine (turnOf st) cs factor weight) ≡ kept st (runWith (st .settings) (turnOf st) (certificateOf cs) factor weight)

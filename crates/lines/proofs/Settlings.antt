@@ -32,13 +32,13 @@ use Rattle.fields.proofs.Certificates.{certificate-only, certificate-long}
 use Rattle.fields.proofs.Texts.{cursor-field, cursor-more, first-none, until-take, until-short}
 use Rattle.lines.specs.declared.kind.Kind.{Kind}
 use Rattle.lines.specs.declared.kind.Kind.the-variants.{Sizes, Filter, Run}
-use Rattle.lines.specs.declared.settle.Answer.the-variants.{More, Whole}
+use Rattle.lines.specs.declared.settle.Standing.the-variants.{More, Whole}
 use Rattle.lines.specs.declared.settle.Settled.{Settled}
 use Rattle.lines.specs.declared.settle.Settling.{Settling}
 use Rattle.lines.specs.declared.table.Limit.{Limit}
 use Rattle.lines.specs.Lists.{column}
 use Rattle.lines.specs.Reading.{values, stop, readBy, readValues}
-use Rattle.lines.specs.Settling.{answerAt, kept, stopped, withSizes, withFilter, runWith, certificateOf, turnOf, anyGroup, settlePlain, afterField, settleFactor, settleCertificate, settleRun, isKind, expecting, settleText, settleLine}
+use Rattle.lines.specs.Settling.{standingAt, kept, stopped, withSizes, withFilter, runWith, certificateOf, turnOf, anyGroup, settlePlain, afterField, settleFactor, settleCertificate, settleRun, isKind, expecting, settleText, settleLine}
 use Rattle.lines.specs.Table.{letterOf, limitOf, runsOf}
 use Rattle.lines.specs.Walk.{Here, Filled}
 use Rattle.lines.proofs.Openings.{one-byte, two-bytes, rest-same}
@@ -46,15 +46,15 @@ use Rattle.lines.proofs.Walking.{read-next}
 
 -- THE ANSWER
 module _ (line m : ℕ) where
-  pub answer-early : line < 2 → More ≡ answerAt line m
+  pub answer-early : line < 2 → More ≡ standingAt line m
   unfolding pick
   answer-early h = rw (ne-eqb line (2 + m) (λ e. absurd (omega arith)))
 
-  pub answer-whole : 2 ≤ line → line - 2 ≡ m → Whole ≡ answerAt line m
+  pub answer-whole : 2 ≤ line → line - 2 ≡ m → Whole ≡ standingAt line m
   unfolding pick
   answer-whole h e = rw (eq-eqb line (2 + m) (omega arith))
 
-  pub answer-more : 2 ≤ line → (line - 2 ≡ m → ⊥) → More ≡ answerAt line m
+  pub answer-more : 2 ≤ line → (line - 2 ≡ m → ⊥) → More ≡ standingAt line m
   unfolding pick
   answer-more h d = rw (ne-eqb line (2 + m) (λ e. d (omega arith)))
 

@@ -26,13 +26,13 @@ use Rattle.fields.specs.Certificate.{allVisible, isCertificate}
 use Rattle.fields.proofs.Cases.{by-test, by-lt, absurd-by}
 use Rattle.fields.proofs.Spellings.{fits-range, range-fits}
 use Rattle.lines.specs.declared.kind.Kind.the-variants.{Sizes, Filter}
-use Rattle.lines.specs.declared.settle.Answer.{Answer}
-use Rattle.lines.specs.declared.settle.Answer.the-variants.{More, Whole, Refused}
+use Rattle.lines.specs.declared.settle.Standing.{Standing}
+use Rattle.lines.specs.declared.settle.Standing.the-variants.{More, Whole, Refused}
 use Rattle.lines.specs.declared.settle.Settled.{Settled}
 use Rattle.lines.specs.declared.settle.Settling.{Settling}
 use Rattle.lines.specs.Lists.{column}
 use Rattle.lines.specs.Settings.{bytesOf, runLine, settingLine, settingLines}
-use Rattle.lines.specs.Settling.{noOne, started, answerAt, withSizes, withFilter, runWith, certificateOf, turnOf, anyGroup, settleLine, settleOn, settleAll}
+use Rattle.lines.specs.Settling.{noOne, settlingStart, standingAt, withSizes, withFilter, runWith, certificateOf, turnOf, anyGroup, settleLine, settleOn, settleAll}
 use Rattle.lines.specs.Table.{quantityAt, limitFor, limitOf, runsOf, countOf}
 use Rattle.lines.specs.Values.{word}
 use Rattle.lines.specs.Writing.{lineOf}
@@ -308,7 +308,7 @@ module _ (us : List (List ℕ)) (l : List ℕ) (ls : List (List ℕ)) (i : ℕ) 
       let f = r .few in
       shifted (end .settings) (rec (by-lt (i + 1) (st .settings .numbers .group .m) (λ a. a) (λ a. absurd (q (omega arith)))) z)
 
-refused-end : {A : Type 0} (go : Settling → Settled) (nx end : Settling) (a : Answer) → takes a ≡ false → settleOn go nx a ≡ whole end → A
+refused-end : {A : Type 0} (go : Settling → Settled) (nx end : Settling) (a : Standing) → takes a ≡ false → settleOn go nx a ≡ whole end → A
 refused-end go nx end More t z = absurd-by (cc)
 refused-end go nx end Whole t z = absurd-by (cc)
 refused-end go nx end (Refused why) t z = not-whole _ end why z
@@ -320,7 +320,7 @@ runs-only (l ∷ ls) us i st end r b e =
     by-test (takes (settleLine st l .answer))
     (λ t.
     let g = run-only st (not-one us i st r b) (not-two us i st r b) (turn-in us i st r b) l t in
-    let z : settleOn (settleAll ls) (next us i st r b l g) (answerAt (3 + i) (st .settings .numbers .group .m)) ≡ whole end = rw (← r .line) (sym (led st l _ (g .taken) (settleAll ls)) ∙ e) in
+    let z : settleOn (settleAll ls) (next us i st r b l g) (standingAt (3 + i) (st .settings .numbers .group .m)) ≡ whole end = rw (← r .line) (sym (led st l _ (g .taken) (settleAll ls)) ∙ e) in
     goes-on us l ls i (next us i st r b l g) end (reached-more us i st r b l g) (eqb (3 + i) (2 + st .settings .numbers .group .m)) refl z
     (λ more d. runs-only ls (us ++ (l ∷ [])) (i + 1) (next us i st r b l g) end (reached-more us i st r b l g) more d))
     (λ t. refused-end (settleAll ls) (settleLine st l .next) end (settleLine st l .answer) t e)
@@ -357,17 +357,17 @@ filter-fit vs f =
     }
 
 abbrev after-sizes : List ℕ → Settling
-after-sizes vs = record { line = 2; settings = withSizes (started .settings) vs }
+after-sizes vs = record { line = 2; settings = withSizes (settlingStart .settings) vs }
 
 abbrev after-filter : List ℕ → List ℕ → Settling
-after-filter vs ws = record { line = 3; settings = withFilter (withSizes (started .settings) vs) ws }
+after-filter vs ws = record { line = 3; settings = withFilter (withSizes (settlingStart .settings) vs) ws }
 
 no-paper : (j : ℕ) → j < 16 → certificateFits false (getD (replicate 16 noOne) j noCertificate) ≡ true
 unfolding certificateFits every
 no-paper j h = rw (getD-replicate 16 j noOne noCertificate h)
 
 reached-first : (l₁ l₂ vs ws : List ℕ) → Fit Sizes anyGroup vs → Fit Filter anyGroup ws → l₁ ≡ lineOf Sizes vs → l₂ ≡ lineOf Filter ws → Reached (l₁ ∷ l₂ ∷ []) 0 (after-filter vs ws)
-unfolding started settingLine pick
+unfolding settlingStart settingLine pick
 reached-first l₁ l₂ vs ws f h e₁ e₂ =
     let g = sizes-fit vs f in
     let n = filter-fit ws h in
@@ -389,7 +389,7 @@ reached-first l₁ l₂ vs ws f h e₁ e₂ =
     }
 
 -- a line that is not the last
-not-last : (go : Settling → Settled) (st : Settling) (line m : ℕ) → line < 2 + m → settleOn go st (answerAt line m) ≡ go st
+not-last : (go : Settling → Settled) (st : Settling) (line m : ℕ) → line < 2 + m → settleOn go st (standingAt line m) ≡ go st
 unfolding pick
 not-last go st line m h = rw (ne-eqb line (2 + m) (λ e. absurd (omega arith)))
 
@@ -406,17 +406,17 @@ second-only (l₂ ∷ ls) l₁ vs end f e z =
     (λ t. refused-end (settleAll ls) (settleLine (after-sizes vs) l₂ .next) end (settleLine (after-sizes vs) l₂ .answer) t z)
 
 -- WHATEVER IS ACCEPTED as settings is in range, and its lines are exactly those that the writer writes of it
-pub settings-only : (lines : List (List ℕ)) (end : Settling) → settleAll lines started ≡ whole end → Spelt lines (end .settings)
-unfolding settleAll started
+pub settings-only : (lines : List (List ℕ)) (end : Settling) → settleAll lines settlingStart ≡ whole end → Spelt lines (end .settings)
+unfolding settleAll settlingStart
 settings-only [] end z = not-whole _ end _ z
 settings-only (l₁ ∷ ls) end z =
-    by-test (takes (settleLine started l₁ .answer))
+    by-test (takes (settleLine settlingStart l₁ .answer))
     (λ t.
-    let w = sizes-only started l₁ refl t in
+    let w = sizes-only settlingStart l₁ refl t in
     let g = group-runs _ (sizes-fit (w .numbers) (w .fit) .1) in
-    let y : settleAll ls (after-sizes (w .numbers)) ≡ whole end = sym (not-last (settleAll ls) (after-sizes (w .numbers)) 1 (getD (w .numbers) 1 0) (omega arith)) ∙ sym (led started l₁ _ (w .taken) (settleAll ls)) ∙ z in
+    let y : settleAll ls (after-sizes (w .numbers)) ≡ whole end = sym (not-last (settleAll ls) (after-sizes (w .numbers)) 1 (getD (w .numbers) 1 0) (omega arith)) ∙ sym (led settlingStart l₁ _ (w .taken) (settleAll ls)) ∙ z in
     second-only ls l₁ (w .numbers) end (w .fit) (w .spelt) y)
-    (λ t. refused-end (settleAll ls) (settleLine started l₁ .next) end (settleLine started l₁ .answer) t z)
+    (λ t. refused-end (settleAll ls) (settleLine settlingStart l₁ .next) end (settleLine settlingStart l₁ .answer) t z)
 
 -- READING WHAT WAS WRITTEN. f k, f (k + 1), .. : n of them, from the front
 ahead : (ℕ → List ℕ) → ℕ → ℕ → List (List ℕ)
@@ -554,7 +554,7 @@ module _ (s : Settings) (fits : settingsFit s ≡ true) where
     abbrev after : Settling
     after = record { line = st .line + 1; settings = runWith (st .settings) (turnOf st) (certificateOf (bytesOf (getD (s .certificates) i noCertificate))) (getD (s .numbers .factors) i 0) (getD (s .numbers .weights) i 0) }
 
-    taken-here : settleLine st (lineAt (2 + i)) ≡ record { next = after; answer = answerAt (3 + i) (s .numbers .group .m) }
+    taken-here : settleLine st (lineAt (2 + i)) ≡ record { next = after; answer = standingAt (3 + i) (s .numbers .group .m) }
     taken-here =
         let l = x .line in
         let t = turn-at in
@@ -635,7 +635,7 @@ module _ (s : Settings) (fits : settingsFit s ≡ true) where
   noises = s .numbers .q ∷ s .numbers .r ∷ s .numbers .p ∷ []
 
   part-first : Part 0 (after-filter sizes noises)
-  unfolding started pick
+  unfolding settlingStart pick
   part-first =
       let a = range in
       record {
@@ -658,21 +658,21 @@ module _ (s : Settings) (fits : settingsFit s ≡ true) where
       led (after-sizes sizes) (lineOf Filter noises) _ (filter-back (after-sizes sizes) (s .numbers .q) (s .numbers .r) (s .numbers .p) refl filter-in) (settleAll ls)
       ∙ not-last (settleAll ls) (after-filter sizes noises) 2 (s .numbers .group .m) (omega arith)
 
-  first-read : (ls : List (List ℕ)) → settleAll (lineOf Sizes sizes ∷ ls) started ≡ settleAll ls (after-sizes sizes)
-  unfolding settleAll started
+  first-read : (ls : List (List ℕ)) → settleAll (lineOf Sizes sizes ∷ ls) settlingStart ≡ settleAll ls (after-sizes sizes)
+  unfolding settleAll settlingStart
   first-read ls =
-      led started (lineOf Sizes sizes) _ (sizes-back started (s .numbers .group .g) (s .numbers .group .m) refl sizes-in) (settleAll ls)
+      led settlingStart (lineOf Sizes sizes) _ (sizes-back settlingStart (s .numbers .group .g) (s .numbers .group .m) refl sizes-in) (settleAll ls)
       ∙ not-last (settleAll ls) (after-sizes sizes) 1 (s .numbers .group .m) (omega arith)
 
   lines-first : (n : ℕ) → s .numbers .group .m ≡ suc n → settingLines s ≡ lineOf Sizes sizes ∷ lineOf Filter noises ∷ ahead lineAt (2 + 0) (suc n)
   unfolding ahead settingLine pick
   lines-first n e = let z : 2 + s .numbers .group .m ≡ suc (suc (suc n)) = omega arith in column-ahead lineAt (2 + s .numbers .group .m) ∙ rw z
 
-  read-again : (n : ℕ) → s .numbers .group .m ≡ suc n → settleAll (settingLines s) started ≡ whole last
+  read-again : (n : ℕ) → s .numbers .group .m ≡ suc n → settleAll (settingLines s) settlingStart ≡ whole last
   read-again n e =
-      ap (λ (l : List (List ℕ)). settleAll l started) (lines-first n e) ∙ first-read (lineOf Filter noises ∷ ahead lineAt (2 + 0) (suc n)) ∙ second-read (ahead lineAt (2 + 0) (suc n))
+      ap (λ (l : List (List ℕ)). settleAll l settlingStart) (lines-first n e) ∙ first-read (lineOf Filter noises ∷ ahead lineAt (2 + 0) (suc n)) ∙ second-read (ahead lineAt (2 + 0) (suc n))
       ∙ runs-read n 0 (after-filter sizes noises) part-first (omega arith)
 
   -- SETTINGS IN RANGE, written and read again, are the same settings, whole after line 2 + m
-  pub settings-back : settleAll (settingLines s) started ≡ whole (record { line = 3 + s .numbers .group .m; settings = s })
+  pub settings-back : settleAll (settingLines s) settlingStart ≡ whole (record { line = 3 + s .numbers .group .m; settings = s })
   settings-back = read-again (s .numbers .group .m - 1) (let b = group-runs (s .numbers .group) group-in in omega arith)

@@ -29,7 +29,7 @@ use Rattle.lines.specs.declared.kind.Found.{Found}
 use Rattle.lines.specs.declared.kind.Found.the-variants.{Known, Unknown}
 use Rattle.lines.specs.declared.read.Line.{Line}
 use Rattle.lines.specs.Lists.{column}
-use Rattle.lines.specs.Reading.{Got, values, stop, kindIn, lineWith, readValues, readKnown, readText, ended, readLine}
+use Rattle.lines.specs.Reading.{Got, values, stop, kindIn, lineWith, readValues, readKnown, readText, endedOnce, readLine}
 use Rattle.lines.specs.Table.{letterOf, kindOf, quantityAt, spellingOf, countOf}
 use Rattle.lines.specs.Values.{messageOf}
 use Rattle.lines.specs.Writing.{spelledAt, textsTo, lineOf}
@@ -109,7 +109,7 @@ unfolding readLine readText pick
 line-accepted s line a =
     by-test (groupFits s)
     (λ g. rw g (by-test (leb (length line) 600)
-    (λ l. rw l (by-test (ended line)
+    (λ l. rw l (by-test (endedOnce line)
     (λ d. rw d (λ e. text-accepted s line a g (until 10 line) (feed-last line (eqb-true (length (until 10 line) + 1) (length line) d)) (kindIn (firstField (until 10 line))) refl e))
     (λ d. rw d (λ e. not-taken _ _ a e))))
     (λ l. rw l (λ e. not-taken _ _ a e))))
@@ -192,7 +192,7 @@ module _ (k : Kind) (vs : List ℕ) where
   unfolding lineOf until
   feed-at = until-append 10 (textOf k vs) (10 ∷ []) (text-lacks k vs) ∙ append-nil (textOf k vs)
 
-  pub ended-line : ended (lineOf k vs) ≡ true
+  pub ended-line : endedOnce (lineOf k vs) ≡ true
   ended-line = eq-eqb (length (until 10 (lineOf k vs)) + 1) (length (lineOf k vs)) (rw feed-at (sym (ap length (line-ends k vs .0) ∙ length-append (textOf k vs) (10 ∷ []))))
 
   text-fields : fieldsOf (textOf k vs) ≡ (letterOf k ∷ []) ∷ textsTo k vs (length vs)

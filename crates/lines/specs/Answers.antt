@@ -9,11 +9,11 @@ use Rattle.units.specs.Refusal.{numberOf, valuesOf}
 use Rattle.fields.specs.declared.spelling.Spelling.the-variants.{Decimal}
 use Rattle.fields.specs.Put.{written}
 use Rattle.fields.specs.Text.{tab, lineFeed}
-use Rattle.lines.specs.declared.settle.Answer.the-variants.{More}
+use Rattle.lines.specs.declared.settle.Standing.the-variants.{More}
 use Rattle.lines.specs.declared.settle.Settled.{Settled}
 use Rattle.lines.specs.declared.settle.Settling.{Settling}
 use Rattle.lines.specs.declared.write.Written.{Written}
-use Rattle.lines.specs.Settling.{started, settleLine, answerNumber, answerValues}
+use Rattle.lines.specs.Settling.{settlingStart, settleLine, standingNumber, standingValues}
 use Rattle.lines.specs.Writing.{writtenNumber, writtenValues}
 
 -- THE WRITER: 6 where the value is out of range; 16 where it is in range and the buffer is shorter than its line; else 0 and the line's length
@@ -28,7 +28,7 @@ xLine n = 88 ∷ tab ∷ written Decimal n ++ (lineFeed ∷ [])
 
 -- SETTINGS THAT WANT MORE: from the start, whatever lines, each taken and none of them the last
 pub data Taking : Settling → Type 0 where
-  begun : Taking started
+  begun : Taking settlingStart
   more : {st : Settling} (line : List ℕ) → Taking st → settleLine st line .answer ≡ More → Taking (settleLine st line .next)
 
 -- the line that they wait for: 1 to 2 + m, where m is 0 until G is read
@@ -51,9 +51,9 @@ pub record Fifteen (line : ℕ) (why : Refusal) : Type 0 where
 
 -- A LINE OF THE SETTINGS: taken with more to come, taken as the last, number 2 + m, or refused by 15, with nothing taken in
 pub data SettlingSays (st : Settling) (r : Settled) : Type 0 where
-  goes-on : answerNumber (r .answer) ≡ 0 → answerValues (r .answer) ≡ 0 ∷ [] → r .next .line ≡ st .line + 1 → st .line < 2 + runsRead (r .next) → SettlingSays st r
-  is-whole : answerNumber (r .answer) ≡ 0 → answerValues (r .answer) ≡ 1 ∷ [] → r .next .line ≡ st .line + 1 → st .line ≡ 2 + runsRead (r .next) → SettlingSays st r
-  refuses : (reason : ℕ) → answerNumber (r .answer) ≡ 15 → answerValues (r .answer) ≡ st .line ∷ reason ∷ [] → 1 ≤ reason → reason ≤ 6 → r .next ≡ st → SettlingSays st r
+  goes-on : standingNumber (r .answer) ≡ 0 → standingValues (r .answer) ≡ 0 ∷ [] → r .next .line ≡ st .line + 1 → st .line < 2 + runsRead (r .next) → SettlingSays st r
+  is-whole : standingNumber (r .answer) ≡ 0 → standingValues (r .answer) ≡ 1 ∷ [] → r .next .line ≡ st .line + 1 → st .line ≡ 2 + runsRead (r .next) → SettlingSays st r
+  refuses : (reason : ℕ) → standingNumber (r .answer) ≡ 15 → standingValues (r .answer) ≡ st .line ∷ reason ∷ [] → 1 ≤ reason → reason ≤ 6 → r .next ≡ st → SettlingSays st r
 
 -- SETTINGS REFUSED at the line they were at: 15, its number, and a reason
 pub record SettingsRefused (st : Settling) (why : Refusal) : Type 0 where

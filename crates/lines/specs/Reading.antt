@@ -83,13 +83,13 @@ unfoldable pub readText : Group → List ℕ → Line
 readText s text = readKnown s (laterFields text) (kindIn (firstField text))
 
 -- 2: "no line feed last, or one earlier; also no bytes"
-abbrev pub ended : List ℕ → Bool
-ended line = eqb (length (until lineFeed line) + 1) (length line)
+abbrev pub endedOnce : List ℕ → Bool
+endedOnce line = eqb (length (until lineFeed line) + 1) (length line)
 
 -- "anything out of range get 6, before all else"; then 1 to 6 in number order
 unfoldable pub readLine : Group → List ℕ → Line
 readLine s line =
-    pick (groupFits s) (pick (leb (length line) lineTop) (pick (ended line) (readText s (until lineFeed line)) (refusedLine Unended)) (refusedLine Long))
+    pick (groupFits s) (pick (leb (length line) lineTop) (pick (endedOnce line) (readText s (until lineFeed line)) (refusedLine Unended)) (refusedLine Long))
     (refusedLine NoRange)
 
 -- the input up to and with its first line feed; the whole input where there is none

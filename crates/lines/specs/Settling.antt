@@ -19,12 +19,12 @@ use Rattle.fields.specs.Certificate.{isCertificate}
 use Rattle.fields.specs.Text.{lineFeed, until, firstField, laterFields}
 use Rattle.lines.specs.declared.kind.Kind.{Kind}
 use Rattle.lines.specs.declared.kind.Kind.the-variants.{Sizes, Filter, Run}
-use Rattle.lines.specs.declared.settle.Answer.{Answer}
-use Rattle.lines.specs.declared.settle.Answer.the-variants.{More, Whole, Refused}
+use Rattle.lines.specs.declared.settle.Standing.{Standing}
+use Rattle.lines.specs.declared.settle.Standing.the-variants.{More, Whole, Refused}
 use Rattle.lines.specs.declared.settle.Settled.{Settled}
 use Rattle.lines.specs.declared.settle.Settling.{Settling}
 use Rattle.lines.specs.Lists.{column}
-use Rattle.lines.specs.Reading.{Got, values, stop, readBy, readValues, ended}
+use Rattle.lines.specs.Reading.{Got, values, stop, readBy, readValues, endedOnce}
 use Rattle.lines.specs.Table.{letterOf, limitOf, runsOf}
 use Rattle.lines.specs.Values.{word}
 
@@ -35,19 +35,19 @@ noOne = record { len = 0; bytes = replicate runsTop 0 }
 abbrev pub noNumbers : Numbers
 noNumbers = record { group = record { g = 0; m = 0 }; q = 0; r = 0; p = 0; factors = replicate runsTop 0; weights = replicate runsTop 0 }
 
-unfoldable pub started : Settling
-started = record { line = 1; settings = record { numbers = noNumbers; certificates = replicate runsTop noOne } }
+unfoldable pub settlingStart : Settling
+settlingStart = record { line = 1; settings = record { numbers = noNumbers; certificates = replicate runsTop noOne } }
 
 -- A LINE REFUSED: "line number from 1, and 1..6 as reason"; nothing is taken in
 abbrev pub stopped : Settling → Refusal → Settled
 stopped st why = record { next = st; answer = Refused (NoSettings (st .line) (numberOf why)) }
 
 -- A LINE TAKEN: the settings are whole after line 2 + m
-abbrev pub answerAt : ℕ → ℕ → Answer
-answerAt line m = pick (eqb line (2 + m)) Whole More
+abbrev pub standingAt : ℕ → ℕ → Standing
+standingAt line m = pick (eqb line (2 + m)) Whole More
 
 abbrev pub kept : Settling → Settings → Settled
-kept st settings = record { next = record { line = st .line + 1; settings = settings }; answer = answerAt (st .line) (settings .numbers .group .m) }
+kept st settings = record { next = record { line = st .line + 1; settings = settings }; answer = standingAt (st .line) (settings .numbers .group .m) }
 
 -- G: g, m
 abbrev pub withSizes : Settings → List ℕ → Settings
@@ -132,14 +132,14 @@ settleText st text =
     (pick (ltb (turnOf st) (runsOf (st .settings .numbers .group .m))) (expecting st Run text (settleRun st (laterFields text))) (stopped st NoKind)))
 
 unfoldable pub settleLine : Settling → List ℕ → Settled
-settleLine st line = pick (leb (length line) lineTop) (pick (ended line) (settleText st (until lineFeed line)) (stopped st Unended)) (stopped st Long)
+settleLine st line = pick (leb (length line) lineTop) (pick (endedOnce line) (settleText st (until lineFeed line)) (stopped st Unended)) (stopped st Long)
 
 -- "a missing line 2": input that ends within the settings
 abbrev pub missing : Settling → Refusal
 missing st = NoSettings (st .line) (numberOf Unended)
 
 -- THE SETTINGS AS A WHOLE: the lines of an input, one after the other
-abbrev pub settleOn : (Settling → Settled) → Settling → Answer → Settled
+abbrev pub settleOn : (Settling → Settled) → Settling → Standing → Settled
 settleOn go st More = go st
 settleOn go st Whole = record { next = st; answer = Whole }
 settleOn go st (Refused why) = record { next = st; answer = Refused why }
@@ -149,12 +149,12 @@ settleAll [] st = stopped st Unended
 settleAll (l ∷ ls) st = settleOn (settleAll ls) (settleLine st l .next) (settleLine st l .answer)
 
 -- the number of what a line of the settings led to, 0 where it was taken, and the values that go with it
-abbrev pub answerNumber : Answer → ℕ
-answerNumber More = 0
-answerNumber Whole = 0
-answerNumber (Refused why) = numberOf why
+abbrev pub standingNumber : Standing → ℕ
+standingNumber More = 0
+standingNumber Whole = 0
+standingNumber (Refused why) = numberOf why
 
-abbrev pub answerValues : Answer → List ℕ
-answerValues More = 0 ∷ []
-answerValues Whole = 1 ∷ []
-answerValues (Refused why) = valuesOf why
+abbrev pub standingValues : Standing → List ℕ
+standingValues More = 0 ∷ []
+standingValues Whole = 1 ∷ []
+standingValues (Refused why) = valuesOf why

@@ -93,29 +93,29 @@ spellingOf First = Decimal
 spellingOf Turn = Decimal
 spellingOf Weight = Decimal
 
-abbrev pub limited : Spelling → ℕ → ℕ → Limit
-limited sp low high = record { spelling = sp; low = low; high = high }
+abbrev pub between : Spelling → ℕ → ℕ → Limit
+between sp low high = record { spelling = sp; low = low; high = high }
 
 -- THE RANGES. A base state label is below the line's own label; a run of the settings comes in its turn: `given` is that label or that turn
 unfoldable pub limitFor : Quantity → Group → ℕ → Limit
-limitFor Sender s given = limited Decimal 0 (s .g - 1)
-limitFor RunNumber s given = limited Decimal 0 (s .m - 1)
-limitFor Round s given = limited Decimal 1 labelTop
-limitFor State s given = limited Decimal 0 labelTop
-limitFor Base s given = limited Decimal 0 (given - 1)
-limitFor Mask s given = limited Hex4 1 (maskEnd (s .m) - 1)
-limitFor Raw s given = limited Decimal 0 rawTop
-limitFor X s given = limited Hex16 0 xBits
-limitFor Variance s given = limited Hex16 0 varianceBits
-limitFor Target s given = limited Hex16 0 targetBits
-limitFor Number s given = limited Decimal 1 numberTop
-limitFor Controllers s given = limited Decimal 1 controllersTop
-limitFor Runs s given = limited Decimal 1 runsTop
-limitFor Noise s given = limited Decimal 1 noiseTop
-limitFor First s given = limited Decimal 1 firstTop
-limitFor Turn s given = limited Decimal given given
-limitFor Factor s given = limited InFactor factorLow factorTop
-limitFor Weight s given = limited Decimal 1 weightTop
+limitFor Sender s given = between Decimal 0 (s .g - 1)
+limitFor RunNumber s given = between Decimal 0 (s .m - 1)
+limitFor Round s given = between Decimal 1 labelTop
+limitFor State s given = between Decimal 0 labelTop
+limitFor Base s given = between Decimal 0 (given - 1)
+limitFor Mask s given = between Hex4 1 (maskEnd (s .m) - 1)
+limitFor Raw s given = between Decimal 0 rawTop
+limitFor X s given = between Hex16 0 xBits
+limitFor Variance s given = between Hex16 0 varianceBits
+limitFor Target s given = between Hex16 0 targetBits
+limitFor Number s given = between Decimal 1 numberTop
+limitFor Controllers s given = between Decimal 1 controllersTop
+limitFor Runs s given = between Decimal 1 runsTop
+limitFor Noise s given = between Decimal 1 noiseTop
+limitFor First s given = between Decimal 1 firstTop
+limitFor Turn s given = between Decimal given given
+limitFor Factor s given = between InFactor factorLow factorTop
+limitFor Weight s given = between Decimal 1 weightTop
 
 abbrev pub limitOf : Kind → ℕ → Group → ℕ → Limit
 limitOf kind place s given = limitFor (quantityAt kind place) s given

@@ -119,8 +119,8 @@ abbrev pub targetOf : List Float → ℕ → List ℕ
 targetOf targets i = bitsOf (getD targets i nan) ∷ []
 
 -- the head's numbers, then the raws of the mask's runs, the floats of so many runs, the targets of so many runs
-unfoldable pub valuesOf : Group → Message → List ℕ
-valuesOf s a =
+unfoldable pub numbersOf : Group → Message → List ℕ
+numbersOf s a =
     headValues (a .head)
     ++ (joined (rawOf (carried s (a .head) .readings) (a .readings)) runsTop
     ++ (joined (floatsOf (a .estimates)) (carried s (a .head) .estimates)

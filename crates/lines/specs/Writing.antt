@@ -21,7 +21,7 @@ use Rattle.lines.specs.declared.write.Written.{Written}
 use Rattle.lines.specs.declared.write.Written.the-variants.{Done, Refused}
 use Rattle.lines.specs.Lists.{column}
 use Rattle.lines.specs.Table.{letterOf, quantityAt, spellingOf}
-use Rattle.lines.specs.Values.{kindIs, valuesOf as numbersOf}
+use Rattle.lines.specs.Values.{kindIs, numbersOf}
 
 -- the number at a place, in its one spelling
 abbrev pub spelledAt : Kind → List ℕ → ℕ → List ℕ

@@ -29,7 +29,7 @@ pub enum Found {
 }
 
 impl Kind {
-    pub fn letter(self) -> u8
+    pub(crate) fn letter(self) -> u8
         ensures { λ r. ⌜ r ≡ letterOf self ⌝ }
     {
         match self {
@@ -54,7 +54,7 @@ impl Kind {
 }
 
 // The kind of a message that can be read: X, G, N and K are none.
-pub fn kind_of(letter: u8) -> Found
+pub(crate) fn kind_of(letter: u8) -> Found
     ensures { λ r. ⌜ r ≡ kindOf letter ⌝ }
 {
     match letter {

@@ -5,7 +5,7 @@ ghost use Prim.Native.Nat.{_+_, _*_, _≤_};
 ghost use lib.ListN.{length, take};
 ghost use Rattle.message.specs.Message.{messageFits};
 ghost use Rattle.lines.specs.Lists.{joined};
-ghost use Rattle.lines.specs.Values.{floatsOf, headValues, kindIs, rawOf, targetOf, valuesOf};
+ghost use Rattle.lines.specs.Values.{floatsOf, headValues, kindIs, rawOf, targetOf, numbersOf};
 ghost use mathlib.Core.Bool.{true};
 use crate::kind::Kind;
 use floats::bits::bits_of;
@@ -17,7 +17,7 @@ use units::limits::RUNS;
 use units::mask::has;
 
 // The first n of these numbers count.
-pub struct Numbers {
+pub struct LineNumbers {
     pub n: usize,
     pub v: [u64; 34],
 }
@@ -75,7 +75,7 @@ fn wide(n: u32) -> u64
 }
 
 // The first n of four numbers.
-pub(crate) fn four(n: usize, a: u64, b: u64, c: u64, d: u64) -> Numbers
+pub(crate) fn four(n: usize, a: u64, b: u64, c: u64, d: u64) -> LineNumbers
     requires { ⌜ n ≤ 4 ⌝ }
     ensures { λ r. ⌜ (r .n ≡ n) × (take n (r .v) ≡ take n (a ∷ b ∷ c ∷ d ∷ [])) × (length (r .v) ≡ 34) ⌝ }
 {
@@ -84,11 +84,11 @@ pub(crate) fn four(n: usize, a: u64, b: u64, c: u64, d: u64) -> Numbers
     v[1] = b;
     v[2] = c;
     v[3] = d;
-    Numbers { n, v }
+    LineNumbers { n, v }
 }
 
 // The numbers of a head.
-pub(crate) fn head_numbers(head: Head) -> Numbers
+pub(crate) fn head_numbers(head: Head) -> LineNumbers
     ensures { λ r. ⌜ (r .n ≡ length (headValues head)) × (take (r .n) (r .v) ≡ headValues head) × (length (r .v) ≡ 34) ⌝ }
 {
     match head {
@@ -137,7 +137,7 @@ pub(crate) fn head_numbers(head: Head) -> Numbers
 }
 
 // Adds the readings of a mask's runs, lowest run first.
-fn with_readings(so: Numbers, mask: u32, readings: [u32; 16]) -> Numbers
+fn with_readings(so: LineNumbers, mask: u32, readings: [u32; 16]) -> LineNumbers
     requires { ⌜ (so .n ≤ 4) × (length (so .v) ≡ 34) ⌝ }
     ensures { λ r. ⌜ (r .n ≡ length (take (so .n) (so .v) ++ joined (rawOf mask readings) 16)) × (take (r .n) (r .v) ≡ take (so .n) (so .v) ++ joined (rawOf mask readings) 16) × (length (r .v) ≡ 34) ⌝ }
 {
@@ -154,11 +154,11 @@ fn with_readings(so: Numbers, mask: u32, readings: [u32; 16]) -> Numbers
         }
         i += 1;
     }
-    Numbers { n: at, v }
+    LineNumbers { n: at, v }
 }
 
 // Adds the floats of m runs.
-fn with_estimates(so: Numbers, m: usize, estimates: [Estimate; 16]) -> Numbers
+fn with_estimates(so: LineNumbers, m: usize, estimates: [Estimate; 16]) -> LineNumbers
     requires { ⌜ (so .n + 2 * m ≤ 34) × (m ≤ 16) × (length (so .v) ≡ 34) ⌝ }
     ensures { λ r. ⌜ (r .n ≡ so .n + 2 * m) × (take (r .n) (r .v) ≡ take (so .n) (so .v) ++ joined (floatsOf estimates) m) × (length (r .v) ≡ 34) ⌝ }
 {
@@ -172,11 +172,11 @@ fn with_estimates(so: Numbers, m: usize, estimates: [Estimate; 16]) -> Numbers
         at += 2;
         i += 1;
     }
-    Numbers { n: at, v }
+    LineNumbers { n: at, v }
 }
 
 // Adds the targets of m runs.
-fn with_targets(so: Numbers, m: usize, targets: [f64; 16]) -> Numbers
+fn with_targets(so: LineNumbers, m: usize, targets: [f64; 16]) -> LineNumbers
     requires { ⌜ (so .n + m ≤ 34) × (m ≤ 16) × (length (so .v) ≡ 34) ⌝ }
     ensures { λ r. ⌜ (r .n ≡ so .n + m) × (take (r .n) (r .v) ≡ take (so .n) (so .v) ++ joined (targetOf targets) m) × (length (r .v) ≡ 34) ⌝ }
 {
@@ -188,13 +188,13 @@ fn with_targets(so: Numbers, m: usize, targets: [f64; 16]) -> Numbers
         at += 1;
         i += 1;
     }
-    Numbers { n: at, v }
+    LineNumbers { n: at, v }
 }
 
 // All numbers of a message in range.
-pub(crate) fn numbers_of(message: Message, group: Group) -> Numbers
+pub(crate) fn numbers_of(message: Message, group: Group) -> LineNumbers
     requires { ⌜ messageFits group message ≡ true ⌝ }
-    ensures { λ r. ⌜ (take (r .n) (r .v) ≡ valuesOf group message) × (r .n ≤ 34) × (length (r .v) ≡ 34) ⌝ }
+    ensures { λ r. ⌜ (take (r .n) (r .v) ≡ numbersOf group message) × (r .n ≤ 34) × (length (r .v) ≡ 34) ⌝ }
 {
     let head = message.head;
     let readings = message.readings;

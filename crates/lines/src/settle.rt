@@ -4,7 +4,7 @@ ghost use mathlib.Core.List.{[], _∷_};
 ghost use Prim.Native.Nat.{_+_, _-_, _≤_, _<_};
 ghost use lib.ListN.{drop, getD, length, take};
 ghost use Rattle.fields.specs.Text.{firstField, laterFields, tabsIn};
-ghost use Rattle.lines.specs.Settling.{answerNumber, anyGroup, answerAt, certificateOf, expecting, isKind, missing, settleCertificate, settleFactor, settleLine, settlePlain, settleRun, settleText, settleWeight, started, stopped, withFilter, runWith, turnOf, withSizes, kept};
+ghost use Rattle.lines.specs.Settling.{standingNumber, anyGroup, standingAt, certificateOf, expecting, isKind, missing, settleCertificate, settleFactor, settleLine, settlePlain, settleRun, settleText, settleWeight, settlingStart, stopped, withFilter, runWith, turnOf, withSizes, kept};
 ghost use Rattle.lines.specs.declared.kind.Kind.{Kind};
 ghost use Rattle.lines.specs.Walk.{Here};
 use crate::kind::Kind;
@@ -31,20 +31,20 @@ pub struct Settling {
     pub(crate) settings: Settings,
 }
 
-pub enum Answer {
+pub enum Standing {
     More,
     Whole,
     Refused(Refusal),
 }
 
-impl Answer {
+impl Standing {
     pub fn number(self) -> u32
-        ensures { λ r. ⌜ r ≡ answerNumber self ⌝ }
+        ensures { λ r. ⌜ r ≡ standingNumber self ⌝ }
     {
         match self {
-            Answer::More => 0,
-            Answer::Whole => 0,
-            Answer::Refused(why) => why.number(),
+            Standing::More => 0,
+            Standing::Whole => 0,
+            Standing::Refused(why) => why.number(),
         }
     }
 }
@@ -52,19 +52,19 @@ impl Answer {
 // What a line led to: what is read now, and whether more lines are wanted.
 pub struct Settled {
     pub next: Settling,
-    pub answer: Answer,
+    pub answer: Standing,
 }
 
-fn answer_at(line: u32, m: usize) -> Answer
-    ensures { λ r. ⌜ r ≡ answerAt line m ⌝ }
+fn standing_at(line: u32, m: usize) -> Standing
+    ensures { λ r. ⌜ r ≡ standingAt line m ⌝ }
 {
     if line < 2 {
-        return Answer::More;
+        return Standing::More;
     }
     if (line - 2) as usize == m {
-        return Answer::Whole;
+        return Standing::Whole;
     }
-    Answer::More
+    Standing::More
 }
 
 // Whether a text's first field is the letter of a kind.
@@ -186,7 +186,7 @@ fn certificate_of(text: &[u8], from: usize, to: usize) -> Certificate
 impl Settling {
     // Nothing is read, and line 1 is next.
     pub fn start() -> Settling
-        ensures { λ r. ⌜ r ≡ started ⌝ }
+        ensures { λ r. ⌜ r ≡ settlingStart ⌝ }
     {
         let none = Certificate {
             len: 0,
@@ -231,7 +231,7 @@ impl Settling {
     }
 
     // The refusal of an input that ends where this line is still missing.
-    pub fn ended(self) -> Refusal
+    pub fn missing(self) -> Refusal
         ensures { λ r. ⌜ r ≡ missing self ⌝ }
     {
         Refusal::Settings {
@@ -245,7 +245,7 @@ impl Settling {
     {
         Settled {
             next: self,
-            answer: Answer::Refused(Refusal::Settings {
+            answer: Standing::Refused(Refusal::Settings {
                 line: self.line,
                 reason: why.number(),
             }),
@@ -263,7 +263,7 @@ impl Settling {
                 line: line + 1,
                 settings,
             },
-            answer: answer_at(line, m),
+            answer: standing_at(line, m),
         }
     }
 

@@ -77,7 +77,7 @@ fn either(first: bool, a: Quantity, b: Quantity) -> Quantity
 }
 
 // What stands at a place, from 0, of a line's numbers.
-pub fn quantity_at(kind: Kind, place: usize) -> Quantity
+pub(crate) fn quantity_at(kind: Kind, place: usize) -> Quantity
     ensures { λ r. ⌜ r ≡ quantityAt kind place ⌝ }
 {
     match kind {
@@ -167,7 +167,7 @@ pub fn quantity_at(kind: Kind, place: usize) -> Quantity
 }
 
 impl Quantity {
-    pub fn spelling(self) -> Spelling
+    pub(crate) fn spelling(self) -> Spelling
         ensures { λ r. ⌜ r ≡ spellingOf self ⌝ }
     {
         match self {
@@ -217,7 +217,7 @@ fn wide(n: u32) -> u64
 
 impl Quantity {
     // `given` is the line's own label, of which a base state label lies below, or the run whose turn it is.
-    pub fn bounds(self, group: Group, given: u64) -> Limit
+    pub(crate) fn bounds(self, group: Group, given: u64) -> Limit
         ensures { λ r. ⌜ r ≡ limitFor self group given ⌝ }
     {
         match self {
@@ -244,14 +244,14 @@ impl Quantity {
 }
 
 // THE TABLE, asked one place at a time.
-pub fn limit_of(kind: Kind, place: usize, group: Group, given: u64) -> Limit
+pub(crate) fn limit_of(kind: Kind, place: usize, group: Group, given: u64) -> Limit
     ensures { λ r. ⌜ r ≡ limitOf kind place group given ⌝ }
 {
     quantity_at(kind, place).bounds(group, given)
 }
 
 // As many runs as a group has, sixteen at the most.
-pub fn runs_of(m: usize) -> usize
+pub(crate) fn runs_of(m: usize) -> usize
     ensures { λ r. ⌜ r ≡ runsOf m ⌝ }
 {
     if m < RUNS { m } else { RUNS }
@@ -265,7 +265,7 @@ fn bits_of_mask(mask: u64) -> usize
 }
 
 // How many numbers a line of a kind has; of R they are known once its mask is.
-pub fn count_of(kind: Kind, group: Group, mask: u64) -> usize
+pub(crate) fn count_of(kind: Kind, group: Group, mask: u64) -> usize
     ensures { λ r. ⌜ (r ≡ countOf kind group mask) × (r ≤ 34) ⌝ }
 {
     match kind {

@@ -23,11 +23,11 @@ use Rattle.message.specs.declared.settings.Settings.{Settings}
 use Rattle.message.specs.Message.{messageFits, plain}
 use Rattle.message.specs.Settings.{settingsFit}
 use Rattle.lines.specs.declared.read.Line.{Line}
-use Rattle.lines.specs.declared.settle.Answer.{Answer as Told}
-use Rattle.lines.specs.declared.settle.Answer.the-variants.{More, Whole, Refused as NoSettings}
+use Rattle.lines.specs.declared.settle.Standing.{Standing}
+use Rattle.lines.specs.declared.settle.Standing.the-variants.{More, Whole, Refused as NoSettings}
 use Rattle.lines.specs.declared.settle.Settled.{Settled}
 use Rattle.lines.specs.declared.settle.Settling.{Settling}
-use Rattle.lines.specs.Reading.{ended, readLine}
+use Rattle.lines.specs.Reading.{endedOnce, readLine}
 use Rattle.lines.specs.Settings.{settingLines}
 use Rattle.lines.specs.Settling.{settleLine, missing, settleOn, settleAll}
 use Rattle.lines.specs.Values.{kindIs}
@@ -102,11 +102,11 @@ reaches (then {line} {ls} {d} w t k) x s q =
 
 -- ---- the lines of the settings
 -- a line that is taken ends with its line feed
-taken-ends : (st : Settling) (line : List ℕ) → takes (settleLine st line .answer) ≡ true → ended line ≡ true
+taken-ends : (st : Settling) (line : List ℕ) → takes (settleLine st line .answer) ≡ true → endedOnce line ≡ true
 unfolding settleLine pick
-taken-ends st line = by-test (leb (length line) lineTop) (λ a. rw a (by-test (ended line) (λ b. rw b (λ e. refl)) (λ b. rw b (λ e. no-way e)))) (λ a. rw a (λ e. no-way e))
+taken-ends st line = by-test (leb (length line) lineTop) (λ a. rw a (by-test (endedOnce line) (λ b. rw b (λ e. refl)) (λ b. rw b (λ e. no-way e)))) (λ a. rw a (λ e. no-way e))
 
-settle-ends : (st : Settling) (line : List ℕ) (told : Told) → settleLine st line .answer ≡ told → takes told ≡ true → feedAt line + 1 ≡ length line
+settle-ends : (st : Settling) (line : List ℕ) (told : Standing) → settleLine st line .answer ≡ told → takes told ≡ true → feedAt line + 1 ≡ length line
 settle-ends st line told p k = eqb-true (feedAt line + 1) (length line) (taken-ends st line (ap takes p ∙ k))
 
 -- up to the one that makes the settings whole
@@ -124,7 +124,7 @@ unfolding settleAll
 boots [] c end s e = let z : NoSettings (missing (c .settling)) ≡ Whole = ap (λ (u : Settled). u .answer) e in absurd-by (cc)
 boots (l ∷ ls) c end s e = told (λ d p q. boots ls d end p q) (settleLine (c .settling) l .answer) refl
   where
-    told : ((d : Core) → d .stage ≡ AtSettings → settleAll ls (d .settling) ≡ whole end → Boots d ls end) → (x : Told) → settleLine (c .settling) l .answer ≡ x → Boots c (l ∷ ls) end
+    told : ((d : Core) → d .stage ≡ AtSettings → settleAll ls (d .settling) ≡ whole end → Boots d ls end) → (x : Standing) → settleLine (c .settling) l .answer ≡ x → Boots c (l ∷ ls) end
     told go More p =
         let b = go (settledIn c AtSettings (settleLine (c .settling) l .next)) refl (ap (settleOn (settleAll ls) (settleLine (c .settling) l .next)) (sym p) ∙ e) in
         record {

@@ -30,7 +30,7 @@ use Rattle.plan.specs.Votes.{possessed}
 use Rattle.lines.specs.declared.settle.Settling.{Settling}
 use Rattle.lines.specs.Reading.{readLine}
 use Rattle.lines.specs.Settings.{settingLines}
-use Rattle.lines.specs.Settling.{started, settleAll}
+use Rattle.lines.specs.Settling.{settlingStart, settleAll}
 use Rattle.lines.specs.Writing.{spellLine, bufferOf}
 use Rattle.lines.proofs.RoundTrip.{Spelt, read-write, line-only}
 use Rattle.lines.proofs.Saying.{notX}
@@ -127,8 +127,8 @@ pub record Demand2 : Type 0 where
   pub sent-read : (s : Numbers) (c : Controller) (a : Message) (head : Head) → IsSent (stepped s c a) head
       → readLine (s .group) (spellLine (s .group) (sentMessage s (stepped s c a .next) head head)) ≡ taken (sentMessage s (stepped s c a .next) head head)
   -- .. and so with the settings: written and read again they are the same; what is accepted is in range, and spelled as it would be written
-  pub settings-read : (s : Settings) → settingsFit s ≡ true → settleAll (settingLines s) started ≡ wholeAt (record { line = 3 + s .numbers .group .m; settings = s })
-  pub settings-spelling : (lines : List (List ℕ)) (end : Settling) → settleAll lines started ≡ wholeAt end → SettingsSpelt lines (end .settings)
+  pub settings-read : (s : Settings) → settingsFit s ≡ true → settleAll (settingLines s) settlingStart ≡ wholeAt (record { line = 3 + s .numbers .group .m; settings = s })
+  pub settings-spelling : (lines : List (List ℕ)) (end : Settling) → settleAll lines settlingStart ≡ wholeAt end → SettingsSpelt lines (end .settings)
   -- "Every step does what the Quarts report and document 01 define, bit for bit": a line that is read by a running controller is one step of `stepped`,
   -- next state and answer ..
   pub each-step : (c : Core) (line : List ℕ) → c .stage ≡ Running → readLine (groupIn c) line .verdict ≡ Taken → turn c line ≡ answered c (stepBy c line)

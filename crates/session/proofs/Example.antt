@@ -36,9 +36,9 @@ use Rattle.plan.specs.Timers.{inEnds, planEnds}
 use Rattle.plan.specs.Votes.{inFloor, planFloor, possessed, chosenPlan, judged}
 use Rattle.lines.specs.Lists.{column, joined}
 use Rattle.lines.specs.Reading.{readAll, readValues, readText, readLine}
-use Rattle.lines.specs.Settling.{started, settleWeight, settleFactor, settleCertificate, settleRun, isKind, settleText, settleLine}
+use Rattle.lines.specs.Settling.{settlingStart, settleWeight, settleFactor, settleCertificate, settleRun, isKind, settleText, settleLine}
 use Rattle.lines.specs.Table.{kindOf, quantityAt, limitFor, countOf}
-use Rattle.lines.specs.Values.{headOf, messageWith, kindIs, headValues, valuesOf}
+use Rattle.lines.specs.Values.{headOf, messageWith, kindIs, headValues, numbersOf}
 use Rattle.lines.specs.Writing.{lineOf, spellLine, refusalLine, bufferOf}
 use Rattle.controller.specs.State.{phaseFits, controllerFits}
 use Rattle.controller.specs.Start.{startEstimates, startOf}
@@ -131,11 +131,11 @@ read-also = tt
 
 -- the settings lines, and writing
 unfoldable settle-computes : Unit {0}
-unfolding started settleWeight settleFactor settleCertificate settleRun isKind settleText
+unfolding settlingStart settleWeight settleFactor settleCertificate settleRun isKind settleText
 settle-computes = tt
 
 unfoldable settle-also : Unit {0}
-unfolding settleLine headValues valuesOf lineOf spellLine refusalLine
+unfolding settleLine headValues numbersOf lineOf spellLine refusalLine
 settle-also = tt
 
 -- a start and a step

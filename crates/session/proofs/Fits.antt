@@ -18,11 +18,11 @@ use Rattle.message.proofs.Views.{by-kind, start-seen}
 use Rattle.message.specs.Head.{headFits}
 use Rattle.message.specs.Message.{messageFits}
 use Rattle.message.specs.Settings.{certificateAt, sixteen, settingsFit}
-use Rattle.lines.specs.declared.settle.Answer.{Answer as Told}
-use Rattle.lines.specs.declared.settle.Answer.the-variants.{More, Whole, Refused as NoSettings}
+use Rattle.lines.specs.declared.settle.Standing.{Standing}
+use Rattle.lines.specs.declared.settle.Standing.the-variants.{More, Whole, Refused as NoSettings}
 use Rattle.lines.specs.declared.settle.Settling.{Settling}
 use Rattle.lines.specs.Reading.{readLine}
-use Rattle.lines.specs.Settling.{started, settleLine, settleOn, settleAll}
+use Rattle.lines.specs.Settling.{settlingStart, settleLine, settleOn, settleAll}
 use Rattle.lines.proofs.RoundTrip.{read-fits}
 use Rattle.lines.proofs.WholeSettings.{settings-only}
 use Rattle.controller_laws.proofs.Fits.{start-fits as controller-start, told, step-fits}
@@ -44,7 +44,7 @@ module _ (st : Settling) (line : List ℕ) where
   one-more rest = refl
 
   reads-on : (r : Reached st) (rest : List (List ℕ))
-      → settleAll (r .lines ++ (line ∷ []) ++ rest) started ≡ settleOn (settleAll rest) (settleLine st line .next) (settleLine st line .answer)
+      → settleAll (r .lines ++ (line ∷ []) ++ rest) settlingStart ≡ settleOn (settleAll rest) (settleLine st line .next) (settleLine st line .answer)
   reads-on r rest = rw append-assoc (r .reads (line ∷ rest) ∙ one-more rest)
 
   more-reached : Reached st → settleLine st line .answer ≡ More → Reached (settleLine st line .next)
@@ -58,7 +58,7 @@ settings-numbers : (s : Settings) → settingsFit s ≡ true → numbersFit (s .
 unfolding settingsFit
 settings-numbers s e = and-left (numbersFit (s .numbers)) (sixteen s) (and-left (numbersFit (s .numbers) && sixteen s) (every (certificateAt s) runsTop) e)
 
-settles-fits : (c : Core) (line : List ℕ) (told : Told) → settleLine (c .settling) line .answer ≡ told → Reached (c .settling)
+settles-fits : (c : Core) (line : List ℕ) (told : Standing) → settleLine (c .settling) line .answer ≡ told → Reached (c .settling)
     → CoreFits (settlesTo c (settleLine (c .settling) line .next) told .next)
 unfolding settlesTo
 settles-fits c line More e r = more-reached (c .settling) line r e

@@ -11,7 +11,7 @@ use Rattle.fields.specs.Text.{lineFeed, until}
 use Rattle.fields.proofs.Texts.{until-lacks}
 use Rattle.fields.specs.Lines.{feedAt, unfinished, linesOf}
 use Rattle.fields.proofs.Lines.{lines-feed, lines-none, unfinished-feed, feed-split}
-use Rattle.lines.specs.Reading.{ended}
+use Rattle.lines.specs.Reading.{endedOnce}
 use Rattle.session.specs.declared.feed.Session.{Session}
 use Rattle.session.specs.Booting.{led, told, inputOf, LedTo}
 use Rattle.session.specs.Feeding.{sessionStart}
@@ -33,12 +33,12 @@ fed-led {input} {out} {y} f e =
     (r .core ∙ ap (led coreStart) (sym c), r .text ∙ ap (told coreStart) (sym c))
 
 -- ---- lines, each with its one line feed last, as one input
-line-parts : (l : List ℕ) → ended l ≡ true → l ≡ until lineFeed l ++ (lineFeed ∷ [])
+line-parts : (l : List ℕ) → endedOnce l ≡ true → l ≡ until lineFeed l ++ (lineFeed ∷ [])
 line-parts l e =
     let n : feedAt l + 1 ≡ length l = eqb-true (feedAt l + 1) (length l) e in
     feed-split l (λ q. omega arith) ∙ ap (λ (t : List ℕ). until lineFeed l ++ (lineFeed ∷ t)) (ap (λ (k : ℕ). drop k l) n ∙ drop-length l)
 
-lines-of : (ls : List (List ℕ)) → ((l : List ℕ) → List·Memᴰ l ls → ended l ≡ true) → linesOf (inputOf ls) ≡ ls
+lines-of : (ls : List (List ℕ)) → ((l : List ℕ) → List·Memᴰ l ls → endedOnce l ≡ true) → linesOf (inputOf ls) ≡ ls
 unfolding inputOf
 lines-of [] f = lines-none
 lines-of (l ∷ ls) f =
@@ -49,7 +49,7 @@ lines-of (l ∷ ls) f =
     ∙ lines-feed u (inputOf ls) (until-lacks lineFeed l)
     ∙ (λ i. sym p i ∷ lines-of ls (λ k m. f k (List·Memᴰ·tail m)) i)
 
-input-whole : (ls : List (List ℕ)) → ((l : List ℕ) → List·Memᴰ l ls → ended l ≡ true) → unfinished (inputOf ls) ≡ []
+input-whole : (ls : List (List ℕ)) → ((l : List ℕ) → List·Memᴰ l ls → endedOnce l ≡ true) → unfinished (inputOf ls) ≡ []
 unfolding inputOf unfinished
 input-whole [] f = refl
 input-whole (l ∷ ls) f =
@@ -60,5 +60,5 @@ input-whole (l ∷ ls) f =
     ∙ unfinished-feed u (inputOf ls) ∙ input-whole ls (λ k m. f k (List·Memᴰ·tail m))
 
 -- WHOLE LINES, fed as bytes in any pieces
-pub lines-led : (ls : List (List ℕ)) → ((l : List ℕ) → List·Memᴰ l ls → ended l ≡ true) → {out : List ℕ} {y : Session} → Feeds sessionStart (inputOf ls) out y → LedTo out ls y
+pub lines-led : (ls : List (List ℕ)) → ((l : List ℕ) → List·Memᴰ l ls → endedOnce l ≡ true) → {out : List ℕ} {y : Session} → Feeds sessionStart (inputOf ls) out y → LedTo out ls y
 lines-led ls w {out} {y} f = let r = fed-led f (input-whole ls w) in (r .0 ∙ ap (led coreStart) (lines-of ls w), r .1 ∙ ap (told coreStart) (lines-of ls w))

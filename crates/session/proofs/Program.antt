@@ -12,7 +12,7 @@ use Rattle.units.specs.Limits.{lineTop}
 use Rattle.units.proofs.InRange.{group-fits}
 use Rattle.message.specs.declared.head.Head.the-variants.{Start}
 use Rattle.message.specs.View.{asStart}
-use Rattle.lines.specs.declared.settle.Answer.the-variants.{Refused as NoSettings}
+use Rattle.lines.specs.declared.settle.Standing.the-variants.{Refused as NoSettings}
 use Rattle.lines.specs.Reading.{readLine}
 use Rattle.lines.specs.Settling.{settleLine}
 use Rattle.lines.proofs.Refusing.{read-long}

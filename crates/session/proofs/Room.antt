@@ -23,8 +23,8 @@ use Rattle.fields.proofs.Cases.{by-test, by-lt}
 use Rattle.fields.proofs.Texts.{until-short}
 use Rattle.fields.specs.Cut.{lineIn}
 use Rattle.fields.specs.Lines.{feedAt}
-use Rattle.lines.specs.declared.settle.Answer.{Answer as Told}
-use Rattle.lines.specs.declared.settle.Answer.the-variants.{More, Whole, Refused as NoSettings}
+use Rattle.lines.specs.declared.settle.Standing.{Standing}
+use Rattle.lines.specs.declared.settle.Standing.the-variants.{More, Whole, Refused as NoSettings}
 use Rattle.lines.specs.declared.settle.Settling.{Settling}
 use Rattle.lines.specs.Reading.{readLine}
 use Rattle.lines.specs.Settling.{settleLine}
@@ -66,7 +66,7 @@ put-short s c second v (One head) =
     let b = fit-short s c head in
     let d = rest-short s c v second in omega arith
 
-settles-short : (c : Core) (next : Settling) (told : Told) → length (settlesTo c next told .text) ≤ 2 * lineTop
+settles-short : (c : Core) (next : Settling) (told : Standing) → length (settlesTo c next told .text) ≤ 2 * lineTop
 unfolding settlesTo
 settles-short c next More = omega arith
 settles-short c next Whole = omega arith

@@ -15,8 +15,8 @@ use Rattle.message.specs.View.{asStart}
 use Rattle.message.proofs.head.Head.{the-type}
 use Rattle.message.proofs.Views.{start-seen, unlisted}
 use Rattle.lines.specs.declared.read.Line.{Line}
-use Rattle.lines.specs.declared.settle.Answer.{Answer as Told}
-use Rattle.lines.specs.declared.settle.Answer.the-variants.{More, Whole, Refused as NoSettings}
+use Rattle.lines.specs.declared.settle.Standing.{Standing}
+use Rattle.lines.specs.declared.settle.Standing.the-variants.{More, Whole, Refused as NoSettings}
 use Rattle.lines.specs.declared.settle.Settled.{Settled}
 use Rattle.lines.specs.declared.settle.Settling.{Settling}
 use Rattle.lines.specs.Reading.{readLine}
@@ -27,7 +27,7 @@ use Rattle.session.specs.declared.stage.Stage.the-variants.{Settling as 
 use Rattle.session.specs.Feeding.{Heard}
 use Rattle.session.specs.Turn.{Turn, quiet, refusing, settledIn, settlesTo, hears, waitsFor, groupIn, turnBy}
 
-module _ (c : Core) (next : Settling) {a : Told} where
+module _ (c : Core) (next : Settling) {a : Standing} where
   pub settles-more : a ≡ More → settlesTo c next a ≡ quiet (settledIn c AtSettings next)
   unfolding settlesTo
   settles-more e = rw e

@@ -14,8 +14,8 @@ use Rattle.message.specs.declared.value.Message.{Message}
 use Rattle.message.specs.View.{onStart}
 use Rattle.fields.specs.Lines.{feedAt, linesOf}
 use Rattle.plan.specs.declared.brief.Phase.the-variants.{Idle}
-use Rattle.lines.specs.declared.settle.Answer.{Answer as Told}
-use Rattle.lines.specs.declared.settle.Answer.the-variants.{More, Whole, Refused as NoSettings}
+use Rattle.lines.specs.declared.settle.Standing.{Standing}
+use Rattle.lines.specs.declared.settle.Standing.the-variants.{More, Whole, Refused as NoSettings}
 use Rattle.lines.specs.Reading.{readLine}
 use Rattle.lines.specs.Settling.{settleLine}
 use Rattle.lines.specs.Writing.{refusalLine, bufferOf}
@@ -35,7 +35,7 @@ use Rattle.session.specs.Station.{answers}
 use Rattle.session.specs.Turn.{numbersIn, groupIn, runningWith, answerText, turn}
 
 -- THE VERDICT ON A LINE: the reader's 1 to 6 first; then 9 before the first B; then the step's
-abbrev pub toldVerdict : Told → Verdict
+abbrev pub toldVerdict : Standing → Verdict
 toldVerdict More = Taken
 toldVerdict Whole = Taken
 toldVerdict (NoSettings why) = Refused why

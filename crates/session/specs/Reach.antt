@@ -5,7 +5,7 @@ use mathlib.Core.List.{List, _++_}
 use Prim.Native.Nat.{ℕ}
 use Rattle.units.specs.Settings.{numbersFit}
 use Rattle.lines.specs.declared.settle.Settling.{Settling}
-use Rattle.lines.specs.Settling.{started, settleAll}
+use Rattle.lines.specs.Settling.{settlingStart, settleAll}
 use Rattle.controller.specs.State.{controllerFits}
 use Rattle.session.specs.declared.stage.Core.{Core}
 use Rattle.session.specs.declared.stage.Stage.{Stage}
@@ -15,7 +15,7 @@ use Rattle.session.specs.Turn.{numbersIn}
 -- lines that led here from the start
 pub record Reached (st : Settling) : Type 0 where
   pub lines : List (List ℕ)
-  pub reads : (rest : List (List ℕ)) → settleAll (lines ++ rest) started ≡ settleAll rest st
+  pub reads : (rest : List (List ℕ)) → settleAll (lines ++ rest) settlingStart ≡ settleAll rest st
 
 abbrev pub FitsAt : Core → Stage → Type 0
 FitsAt c AtSettings = Reached (c .settling)

@@ -12,11 +12,11 @@ use Rattle.message.specs.declared.value.Message.{Message}
 use Rattle.message.specs.View.{onStart}
 use Rattle.plan.specs.declared.planned.Sent.{Sent}
 use Rattle.plan.specs.declared.planned.Sent.the-variants.{Nothing, One}
-use Rattle.lines.specs.declared.settle.Answer.{Answer as Told}
-use Rattle.lines.specs.declared.settle.Answer.the-variants.{More, Whole, Refused as NoSettings}
+use Rattle.lines.specs.declared.settle.Standing.{Standing}
+use Rattle.lines.specs.declared.settle.Standing.the-variants.{More, Whole, Refused as NoSettings}
 use Rattle.lines.specs.declared.settle.Settling.{Settling}
 use Rattle.lines.specs.Reading.{readLine}
-use Rattle.lines.specs.Settling.{started, settleLine}
+use Rattle.lines.specs.Settling.{settlingStart, settleLine}
 use Rattle.lines.specs.Writing.{spellLine, refusalLine}
 use Rattle.controller.specs.declared.state.Controller.{Controller}
 use Rattle.controller.specs.declared.step.Answer.{Answer}
@@ -35,7 +35,7 @@ groupIn c = numbersIn c .group
 
 -- nothing is read; the controller does not count yet
 unfoldable pub coreStart : Core
-coreStart = record { stage = AtSettings; settling = started; controller = startOf (started .settings .numbers) 0 (record { 0 = 0 }) }
+coreStart = record { stage = AtSettings; settling = settlingStart; controller = startOf (settlingStart .settings .numbers) 0 (record { 0 = 0 }) }
 
 abbrev pub settledIn : Core → Stage → Settling → Core
 settledIn c stage settling = record { stage = stage; settling = settling; controller = c .controller }
@@ -54,7 +54,7 @@ abbrev pub refusing : Core → Refusal → Turn
 refusing c why = record { next = c; text = refusalLine why }
 
 -- WHILE THE SETTINGS COME: "Refused settings give X 15 and the end"
-unfoldable pub settlesTo : Core → Settling → Told → Turn
+unfoldable pub settlesTo : Core → Settling → Standing → Turn
 settlesTo c next More = quiet (settledIn c AtSettings next)
 settlesTo c next Whole = quiet (settledIn c Waiting next)
 settlesTo c next (NoSettings why) = refusing (settledIn c Ended next) why

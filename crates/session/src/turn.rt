@@ -17,8 +17,8 @@ use controller::Controller;
 use fields::Carry;
 use lines::Line;
 use lines::read::First;
-use lines::settle::Answer as Told;
 use lines::settle::Settled;
+use lines::settle::Standing;
 use lines::write::Written;
 use lines::write::write_refusal;
 use message::Head;
@@ -60,9 +60,9 @@ impl Core {
         let next = settled.next;
         let answer = settled.answer;
         match answer {
-            Told::More => self.settled(Stage::Settling, next).quiet(),
-            Told::Whole => self.settled(Stage::Waiting, next).quiet(),
-            Told::Refused(why) => self.settled(Stage::Ended, next).refuse(why, out),
+            Standing::More => self.settled(Stage::Settling, next).quiet(),
+            Standing::Whole => self.settled(Stage::Waiting, next).quiet(),
+            Standing::Refused(why) => self.settled(Stage::Ended, next).refuse(why, out),
         }
     }
 

@@ -2,7 +2,7 @@
 use mathlib.Core.Path.{ap, _∙_}
 use Prim.Native.Nat.{ℕ, _-_}
 use Rattle.fields.specs.declared.spelling.Spelling.the-variants.{Decimal, Hex4}
-use Rattle.lines.specs.Table.{limited, limitFor}
+use Rattle.lines.specs.Table.{between, limitFor}
 use Rattle.lines.proofs.Rows.{limit-at}
 use borrow.Author.Needs.{needs}
 use Rattle.lines.proofs.table.Quantity.bounds.Statement.{statement}
@@ -10,19 +10,19 @@ use Rattle.lines.proofs.table.Quantity.bounds.Tie as tie
 
 returns : tie.Need-returns
 unfolding limitFor
-returns c = limit-at _ _ (c .before .before .enum-told .given .1) (c .made .ensures ∙ ap (limited Decimal 0) (c .before .less-one .ensures))
+returns c = limit-at _ _ (c .before .before .enum-told .given .1) (c .made .ensures ∙ ap (between Decimal 0) (c .before .less-one .ensures))
 
 returns-2 : tie.Need-returns-2
 unfolding limitFor
-returns-2 c = limit-at _ _ (c .before .before .enum-told2 .given .1) (c .made2 .ensures ∙ ap (limited Decimal 0) (c .before .less-one2 .ensures))
+returns-2 c = limit-at _ _ (c .before .before .enum-told2 .given .1) (c .made2 .ensures ∙ ap (between Decimal 0) (c .before .less-one2 .ensures))
 
 returns-5 : tie.Need-returns-5
 unfolding limitFor
-returns-5 c = limit-at _ _ (c .before .before .enum-told5 .given .1) (c .made5 .ensures ∙ ap (limited Decimal 0) (c .before .less-one3 .ensures))
+returns-5 c = limit-at _ _ (c .before .before .enum-told5 .given .1) (c .made5 .ensures ∙ ap (between Decimal 0) (c .before .less-one3 .ensures))
 
 returns-6 : tie.Need-returns-6
 unfolding limitFor
-returns-6 c = limit-at _ _ (c .before .before .before .before .enum-told6 .given .1) (c .made6 .ensures ∙ ap (limited Hex4 1) (c .before .less-one4 .ensures ∙ ap (λ (n : ℕ). n - 1) (c .before .before .wide .ensures ∙ c .before .before .before .mask-end .ensures)))
+returns-6 c = limit-at _ _ (c .before .before .before .before .enum-told6 .given .1) (c .made6 .ensures ∙ ap (between Hex4 1) (c .before .less-one4 .ensures ∙ ap (λ (n : ℕ). n - 1) (c .before .before .wide .ensures ∙ c .before .before .before .mask-end .ensures)))
 
 pub bounds-spec : {M : Type 1} → statement M
 unfolding limitFor
