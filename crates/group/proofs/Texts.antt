@@ -15,9 +15,10 @@ use Rattle.units.specs.declared.settings.Numbers.{Numbers}
 use Rattle.units.specs.Pick.{pick}
 use Rattle.units.specs.Refusal.{numberOf}
 use Rattle.message.specs.declared.head.Head.{Head}
-use Rattle.message.specs.declared.head.Head.the-variants.{Reading, Query, Reply, Advert, Update, Vote, Setpoints, Due, CollectingEnds, VotingEnds, Floor, Start, Refused}
+use Rattle.message.specs.declared.head.Head.the-variants.{Start, Refused}
 use Rattle.message.specs.declared.value.Message.{Message}
 use Rattle.message.specs.Message.{plain}
+use Rattle.message.proofs.Views.{by-kind, start-seen}
 use Rattle.fields.proofs.Cases.{absurd-by}
 use Rattle.lines.specs.declared.kind.Found.the-variants.{Known}
 use Rattle.lines.specs.declared.read.Line.{Line}
@@ -45,6 +46,7 @@ use Rattle.fields.specs.Lines.{linesOf}
 use Rattle.session.specs.Turn.{Turn, numbersIn, groupIn, refusing, settlesTo, waitsFor, hears, sentText, verdictText, answerText, turnBy, stepping, turn}
 use Rattle.fields.proofs.Lines.{lines-feed, lines-none}
 use Rattle.session.proofs.Sent.{sent-back}
+use Rattle.session.proofs.Turns.{waits-other}
 use Rattle.group.specs.World.{rising}
 use Rattle.group.specs.Wire.{spelling, spelledBy}
 use Rattle.group.specs.Stations.{puts, keptIf, spoken}
@@ -174,20 +176,11 @@ pub data Text (c : Core) : List ℕ → Type 0 where
 
 -- before the first B every line but B is 9, and starts no controller
 pub waits-way : (c : Core) (h : Head) → ((waitsFor c h ≡ refusing c Closed) × (rising (numbersIn c) h ≡ none)) ⊎ ((own : ℕ) × (floor : RoundLabel) × (h ≡ Start own floor))
-unfolding waitsFor
-waits-way c (Reading label run raw) = inl (refl, refl)
-waits-way c (Query sender label mask) = inl (refl, refl)
-waits-way c (Reply sender label mask) = inl (refl, refl)
-waits-way c (Advert sender state) = inl (refl, refl)
-waits-way c (Update sender state) = inl (refl, refl)
-waits-way c (Vote sender label digest) = inl (refl, refl)
-waits-way c (Setpoints sender label digest) = inl (refl, refl)
-waits-way c (Due label) = inl (refl, refl)
-waits-way c (CollectingEnds label) = inl (refl, refl)
-waits-way c (VotingEnds label) = inl (refl, refl)
-waits-way c (Floor label) = inl (refl, refl)
-waits-way c (Start own floor) = inr (own, floor, refl)
-waits-way c (Refused number) = inl (refl, refl)
+waits-way c h =
+    by-kind (λ (k : Head). ((waitsFor c k ≡ refusing c Closed) × (rising (numbersIn c) k ≡ none)) ⊎ ((own : ℕ) × (floor : RoundLabel) × (k ≡ Start own floor)))
+    (λ v. inr (v .0, v .1, refl))
+    (λ k n. inl (waits-other c k n, rw n))
+    (start-seen h)
 
 module _ (c : Core) where
   settles-text : (next : Settling) (told : Standing) → Text c (settlesTo c next told .text)
