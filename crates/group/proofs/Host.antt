@@ -7,13 +7,12 @@ use mathlib.Core.Logic.{inl, inr, ⊎-elim}
 use mathlib.Core.Option.{Option, none, some}
 use Rattle.units.specs.declared.labels.RoundLabel.{RoundLabel}
 use Rattle.units.specs.declared.settings.Numbers.{Numbers}
-use Rattle.units.proofs.Every.{no-way}
+use Rattle.units.proofs.Every.{no-way, absurd-by}
 use Rattle.message.specs.declared.head.Head.{Head}
 use Rattle.message.specs.declared.head.Head.the-variants.{Floor, Start}
 use Rattle.message.specs.declared.value.Message.{Message}
 use Rattle.message.specs.Message.{plain}
 use Rattle.message.proofs.Views.{floor-seen, by-kind}
-use Rattle.fields.proofs.Cases.{absurd-by}
 use Rattle.controller.specs.declared.state.Controller.{Controller}
 use Rattle.group.specs.World.{Mark, mark, here, next, hand, store, crash, On, World, Event, confirms, handed, after}
 use Rattle.group.specs.Premises.{Meters, Kept, Run}

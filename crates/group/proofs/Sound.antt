@@ -12,7 +12,7 @@ use Rattle.units.specs.declared.labels.RoundLabel.{RoundLabel}
 use Rattle.units.specs.declared.labels.StateLabel.{StateLabel}
 use Rattle.units.specs.declared.settings.Numbers.{Numbers}
 use Rattle.units.specs.Mask.{inMask}
-use Rattle.units.proofs.Every.{and-right}
+use Rattle.units.proofs.Every.{and-right, absurd-by}
 use Rattle.units.proofs.Masks.{no-run, in-and}
 use Rattle.vote.specs.declared.digest.Digest.{Digest}
 use Rattle.vote.specs.declared.votes.Ballot.the-variants.{Cast}
@@ -24,7 +24,6 @@ use Rattle.message.specs.declared.head.Head.the-variants.{Reading, Reply, Updat
 use Rattle.message.specs.declared.value.Message.{Message}
 use Rattle.message.specs.Message.{messageFits}
 use Rattle.message.specs.View.{isTelling}
-use Rattle.fields.proofs.Cases.{absurd-by}
 use Rattle.plan.specs.Votes.{ownDigest}
 use Rattle.controller.specs.declared.state.Controller.{Controller}
 use Rattle.controller.specs.declared.step.Answer.{Answer}

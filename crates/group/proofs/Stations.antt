@@ -3,7 +3,6 @@ use Prim.Native.Nat.{ℕ}
 use mathlib.Core.Path.{_≡_, refl, sym, ap, subst, _∙_}
 use mathlib.Core.Bool.{true}
 use mathlib.Core.List.{List, [], _∷_, _++_}
-use mathlib.Core.Logic.{inl, inr}
 use mathlib.Core.Option.{Option, none, some}
 use lib.Dec.{eqb, ltb}
 use Rattle.units.specs.declared.labels.RoundLabel.{RoundLabel}
@@ -16,12 +15,14 @@ use Rattle.units.specs.declared.settings.Numbers.{Numbers}
 use Rattle.units.specs.Labels.{floorFits}
 use Rattle.units.specs.Pick.{pick}
 use Rattle.units.specs.Settings.{numbersFit}
-use Rattle.units.proofs.Every.{and-left, and-right}
+use Rattle.units.proofs.Every.{and-left, and-right, absurd-by}
 use Rattle.message.specs.declared.head.Head.{Head}
 use Rattle.message.specs.declared.head.Head.the-variants.{Start}
 use Rattle.message.specs.declared.value.Message.{Message}
 use Rattle.message.specs.Head.{headFits}
-use Rattle.fields.proofs.Cases.{by-test, absurd-by}
+use Rattle.message.specs.View.{asStart}
+use Rattle.message.proofs.Views.{start-seen, by-kind}
+use Rattle.fields.proofs.Cases.{by-test}
 use Rattle.lines.specs.declared.settle.Settling.{Settling}
 use Rattle.lines.specs.Reading.{readLine}
 use Rattle.lines.proofs.RoundTrip.{read-fits}
@@ -35,17 +36,17 @@ use Rattle.session.specs.Booting.{led, told}
 use Rattle.session.specs.Demand.{spokenIn, stepBy}
 use Rattle.session.specs.Reach.{FitsAt, CoreFits}
 use Rattle.fields.specs.Lines.{linesOf}
-use Rattle.session.specs.Turn.{Turn, numbersIn, groupIn, coreStart, runningWith, quiet, refusing, waitsFor, hears, answered, turnBy, stepping, turn}
+use Rattle.session.specs.Turn.{Turn, numbersIn, groupIn, coreStart, runningWith, quiet, refusing, hears, answered, turnBy, turn}
 use Rattle.session.proofs.Demand2.{turn-steps}
 use Rattle.session.proofs.Fits.{start-fits, turn-fits}
-use Rattle.session.proofs.Program.{first-start}
+use Rattle.session.proofs.Program.{waits-closed, first-start}
 use Rattle.group.specs.World.{Mark, empty, EventOf, hand, store, crash, put, On, here, next, confirms, rising}
 use Rattle.group.specs.Premises.{Meters}
 use Rattle.group.specs.Wire.{Wire, takes, hears as hears-line, afterwards, OnwardLines, Demand3Lines}
 use Rattle.group.specs.Stations.{Stations, Given, line, boot, puts, confirming, turned, later, controllerAt, controllerIn, spoken, wireIn, Asked, Booted, KeptGiven, OnwardStations, Demand3Stations}
 use Rattle.group.proofs.Later.{continued}
 use Rattle.group.proofs.Sent.{put-same}
-use Rattle.group.proofs.Texts.{in-spoken, spoken-x, quiet-sent, spoken-step, waits-way, turn-text, turn-whole, spoken-text, puts-both}
+use Rattle.group.proofs.Texts.{in-spoken, spoken-x, quiet-sent, spoken-step, turn-text, turn-whole, spoken-text, puts-both}
 use Rattle.group.proofs.Wire.{demand3-lines}
 
 -- ---- the turns of a program past its settings
@@ -64,16 +65,6 @@ data Way (c : Core) (ln : List ℕ) : Type 0 where
   rises : (own : ℕ) (floor : RoundLabel) → c .stage ≡ Waiting → readLine (groupIn c) ln .verdict ≡ Taken → spokenIn c ln .head ≡ Start own floor → Way c ln
   steps : c .stage ≡ Running → readLine (groupIn c) ln .verdict ≡ Taken → Way c ln
 
-wait-turn : (c : Core) (ln : List ℕ) (stage : Stage) (v : Verdict) → stage ≡ Waiting → readLine (groupIn c) ln .verdict ≡ v
-    → turnBy stepping c ln stage ≡ hears (λ a. waitsFor c (a .head)) c (spokenIn c ln) v
-unfolding turnBy
-wait-turn c ln stage v e ev = rw e (ap (hears (λ a. waitsFor c (a .head)) c (spokenIn c ln)) ev)
-
-run-turn : (c : Core) (ln : List ℕ) (stage : Stage) (v : Verdict) → stage ≡ Running → readLine (groupIn c) ln .verdict ≡ v
-    → turnBy stepping c ln stage ≡ hears (stepping c) c (spokenIn c ln) v
-unfolding turnBy
-run-turn c ln stage v e ev = rw e (ap (hears (stepping c) c (spokenIn c ln)) ev)
-
 unsure : (i : ℕ) (h : Head) (v : Verdict) (stage : Stage) → stage ≡ Waiting → confirming i h v stage ≡ []
 unsure i h v stage e = rw e
 
@@ -87,20 +78,18 @@ unread s w i a v e n r =
     ∙ (λ k. record { up = λ j. (ap (λ (x : Option Controller). put (w .up) i x j) (r ∙ sym n) ∙ put-same (w .up) i j) k; sent = w .sent; stored = w .stored; confirmed = w .confirmed })
 
 way : (c : Core) (ln : List ℕ) (stage : Stage) → c .stage ≡ stage → Past stage → (v : Verdict) → readLine (groupIn c) ln .verdict ≡ v → Way c ln
-unfolding hears
+unfolding turnBy hears
 way c ln AtSettings e p v ev = absurd p
 way c ln Waiting e p Taken ev =
-    elim (waits-way c (spokenIn c ln .head)) [
-      | inl q ↦ refuses Closed (wait-turn c ln (c .stage) Taken e ev ∙ q .0) (λ i. unsure i (spokenIn c ln .head) (readLine (groupIn c) ln .verdict) (c .stage) e)
-          (λ w i u. unread (numbersIn c) w i (spokenIn c ln) _ ev (u ∙ ap (controllerAt c) e) (q .1))
-      | inr q ↦ rises (q .0) (q .1) e ev (q .2)
-    ]
+    by-kind (λ (k : Head). spokenIn c ln .head ≡ k → Way c ln) (λ v q. rises (v .0) (v .1) e ev q)
+    (λ k n q. refuses Closed (waits-closed c ln e ev (ap asStart q ∙ n)) (λ i. unsure i (spokenIn c ln .head) (readLine (groupIn c) ln .verdict) (c .stage) e)
+    (λ w i u. unread (numbersIn c) w i (spokenIn c ln) _ ev (u ∙ ap (controllerAt c) e) (ap (rising (numbersIn c)) q ∙ rw n))) (start-seen (spokenIn c ln .head)) refl
 way c ln Waiting e p (Denied why) ev =
-    refuses why (wait-turn c ln (c .stage) (Denied why) e ev) (λ i. unsure i (spokenIn c ln .head) (readLine (groupIn c) ln .verdict) (c .stage) e)
+    refuses why (rw (e, ev)) (λ i. unsure i (spokenIn c ln .head) (readLine (groupIn c) ln .verdict) (c .stage) e)
     (λ w i u. ap (hears-line (numbersIn c) w i (spokenIn c ln)) ev)
 way c ln Running e p Taken ev = steps e ev
 way c ln Running e p (Denied why) ev =
-    refuses why (run-turn c ln (c .stage) (Denied why) e ev)
+    refuses why (rw (e, ev))
     (λ i. ap (confirming i (spokenIn c ln .head) (readLine (groupIn c) ln .verdict)) e ∙ ap (λ (x : Verdict). confirming i (spokenIn c ln .head) x Running) ev)
     (λ w i u. ap (hears-line (numbersIn c) w i (spokenIn c ln)) ev)
 way c ln Ended e p v ev = absurd p

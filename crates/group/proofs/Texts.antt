@@ -2,10 +2,8 @@
 use Prim.Native.Nat.{ℕ}
 use mathlib.Core.Path.{_≡_, refl, sym, ap, subst, _∙_}
 use mathlib.Core.List.{List, [], _∷_, _++_, append-nil, append-assoc, List·Memᴰ, List·Memᴰ·head, List·Memᴰ·tail, List·Memᴰ·cases-cons, List·Memᴰ·not-nil}
-use mathlib.Core.Logic.{_⊎_, inl, inr}
-use mathlib.Core.Option.{none}
+use mathlib.Core.Logic.{inl, inr}
 use lib.ListN.{getD}
-use Rattle.units.specs.declared.labels.RoundLabel.{RoundLabel}
 use Rattle.units.specs.declared.refusal.Refusal.{Refusal}
 use Rattle.units.specs.declared.refusal.Refusal.the-variants.{Closed}
 use Rattle.units.specs.declared.refusal.Verdict.{Verdict}
@@ -14,12 +12,12 @@ use Rattle.units.specs.declared.settings.Group.{Group}
 use Rattle.units.specs.declared.settings.Numbers.{Numbers}
 use Rattle.units.specs.Pick.{pick}
 use Rattle.units.specs.Refusal.{numberOf}
+use Rattle.units.proofs.Every.{absurd-by}
 use Rattle.message.specs.declared.head.Head.{Head}
-use Rattle.message.specs.declared.head.Head.the-variants.{Start, Refused}
+use Rattle.message.specs.declared.head.Head.the-variants.{Refused}
 use Rattle.message.specs.declared.value.Message.{Message}
 use Rattle.message.specs.Message.{plain}
-use Rattle.message.proofs.Views.{by-kind, start-seen}
-use Rattle.fields.proofs.Cases.{absurd-by}
+use Rattle.message.proofs.Views.{start-seen, by-kind}
 use Rattle.lines.specs.declared.kind.Found.the-variants.{Known}
 use Rattle.lines.specs.declared.read.Line.{Line}
 use Rattle.lines.specs.declared.settle.Standing.{Standing}
@@ -43,11 +41,9 @@ use Rattle.session.specs.declared.stage.Stage.the-variants.{Settling as AtSetti
 use Rattle.session.specs.Booting.{told}
 use Rattle.session.specs.Demand.{spokenIn}
 use Rattle.fields.specs.Lines.{linesOf}
-use Rattle.session.specs.Turn.{Turn, numbersIn, groupIn, refusing, settlesTo, waitsFor, hears, sentText, verdictText, answerText, turnBy, stepping, turn}
+use Rattle.session.specs.Turn.{Turn, numbersIn, groupIn, settlesTo, waitsFor, hears, sentText, verdictText, answerText, turnBy, stepping, turn}
 use Rattle.fields.proofs.Lines.{lines-feed, lines-none}
 use Rattle.session.proofs.Sent.{sent-back}
-use Rattle.session.proofs.Turns.{waits-other}
-use Rattle.group.specs.World.{rising}
 use Rattle.group.specs.Wire.{spelling, spelledBy}
 use Rattle.group.specs.Stations.{puts, keptIf, spoken}
 
@@ -174,14 +170,6 @@ pub data Text (c : Core) : List ℕ → Type 0 where
   denial : (why : Refusal) → Text c (refusalLine why)
   answer : c .stage ≡ Running → (r : Answer) → Text c (answerText (numbersIn c) r)
 
--- before the first B every line but B is 9, and starts no controller
-pub waits-way : (c : Core) (h : Head) → ((waitsFor c h ≡ refusing c Closed) × (rising (numbersIn c) h ≡ none)) ⊎ ((own : ℕ) × (floor : RoundLabel) × (h ≡ Start own floor))
-waits-way c h =
-    by-kind (λ (k : Head). ((waitsFor c k ≡ refusing c Closed) × (rising (numbersIn c) k ≡ none)) ⊎ ((own : ℕ) × (floor : RoundLabel) × (k ≡ Start own floor)))
-    (λ v. inr (v .0, v .1, refl))
-    (λ k n. inl (waits-other c k n, rw n))
-    (start-seen h)
-
 module _ (c : Core) where
   settles-text : (next : Settling) (told : Standing) → Text c (settlesTo c next told .text)
   unfolding settlesTo
@@ -191,11 +179,7 @@ module _ (c : Core) where
 
   waits-text : (h : Head) → Text c (waitsFor c h .text)
   unfolding waitsFor
-  waits-text h =
-      elim (waits-way c h) [
-        | inl q ↦ subst (λ (t : Turn). Text c (t .text)) (sym (q .0)) (denial Closed)
-        | inr q ↦ subst (λ (k : Head). Text c (waitsFor c k .text)) (sym (q .2)) silence
-      ]
+  waits-text h = by-kind (λ (k : Head). Text c (waitsFor c k .text)) (λ v. silence) (λ k q. rw q (denial Closed)) (start-seen h)
 
   hears-text : (go : Message → Turn) (a : Message) (v : Verdict) → Text c (go a .text) → Text c (hears go c a v .text)
   unfolding hears

@@ -15,7 +15,7 @@ use Rattle.units.specs.declared.settings.Group.{Group}
 use Rattle.units.specs.declared.settings.Numbers.{Numbers}
 use Rattle.units.specs.Labels.{roundFits}
 use Rattle.units.specs.Settings.{groupFits}
-use Rattle.units.proofs.Every.{and-left, and-right, and-both}
+use Rattle.units.proofs.Every.{and-left, and-right, and-both, absurd-by}
 use Rattle.units.proofs.Tab.{length-tab, getD-tab}
 use Rattle.units.proofs.InRange.{group-range}
 use Rattle.vote.specs.declared.digest.Digest.{Digest}
@@ -36,7 +36,6 @@ use Rattle.message.specs.declared.value.Message.{Message}
 use Rattle.message.specs.Head.{headFits}
 use Rattle.message.specs.Message.{messageFits}
 use Rattle.message.proofs.Views.{vote-seen, by-kind}
-use Rattle.fields.proofs.Cases.{absurd-by}
 use Rattle.controller_laws.proofs.Fits.{told}
 use Rattle.controller_laws.proofs.Ways.{on-pick, same-round}
 use Rattle.controller_laws.proofs.Changes.{not-missing, same-digest}

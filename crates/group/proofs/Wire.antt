@@ -7,12 +7,12 @@ use Rattle.units.specs.declared.labels.RoundLabel.{RoundLabel}
 use Rattle.units.specs.declared.refusal.Verdict.{Verdict}
 use Rattle.units.specs.declared.refusal.Verdict.the-variants.{Taken, Refused as Denied}
 use Rattle.units.specs.declared.settings.Numbers.{Numbers}
+use Rattle.units.proofs.Every.{absurd-by}
 use Rattle.vote.specs.declared.digest.Digest.{Digest}
 use Rattle.message.specs.declared.head.Head.{Head}
 use Rattle.message.specs.declared.head.Head.the-variants.{Vote, Setpoints, Refused}
 use Rattle.message.specs.declared.value.Message.{Message}
 use Rattle.message.specs.Message.{plain}
-use Rattle.fields.proofs.Cases.{absurd-by}
 use Rattle.lines.specs.declared.read.Line.{Line}
 use Rattle.lines.specs.Reading.{readLine}
 use Rattle.lines.specs.Writing.{spellLine}

@@ -15,15 +15,15 @@ use Rattle.group.proofs.Examples.{scripted}
 use Rattle.group.proofs.Wire.{wireOf}
 use Rattle.group.proofs.WireExamples.{scripted-lines}
 use Rattle.group.proofs.StationExamples.{Stood, stood}
-use Rattle.group.proofs.Computes.{run-computes}
+use Rattle.group.proofs.Computes.{world-computes}
 
 -- each event keeps the premises
 session-fair : allFair numbers steady empty session ≡ true
-unfolding run-computes numbers session
+unfolding world-computes numbers session
 session-fair = refl
 
 returning-fair : allFair three steady empty returning ≡ true
-unfolding run-computes three returning
+unfolding world-computes three returning
 returning-fair = refl
 
 -- document 01's session, as a run that keeps every premise, and all that is sent in it
@@ -31,7 +31,7 @@ pub session-run : Run numbers (Kept steady) (played numbers empty session)
 session-run = scripted numbers steady empty empty session here session-fair
 
 pub session-says : saying numbers (played numbers empty session) ≡ sessionSays
-unfolding run-computes numbers session sessionSays
+unfolding world-computes numbers session sessionSays
 session-says = refl
 
 -- a crash, a restart at the floor, two issued labels: a run that keeps every premise, and all that is sent in it
@@ -39,36 +39,36 @@ pub returning-run : Run three (Kept steady) (played three empty returning)
 returning-run = scripted three steady empty empty returning here returning-fair
 
 pub returning-says : saying three (played three empty returning) ≡ returningSays
-unfolding run-computes three returning returningSays
+unfolding world-computes three returning returningSays
 returning-says = refl
 
 -- all three controllers issue one label, each from other votes, after a round that ended undecided: a run that keeps every premise, all that is sent in it, and every refusal
 mixed-fair : allFair three steady empty mixed ≡ true
-unfolding run-computes three mixed
+unfolding world-computes three mixed
 mixed-fair = refl
 
 pub mixed-run : Run three (Kept steady) (played three empty mixed)
 mixed-run = scripted three steady empty empty mixed here mixed-fair
 
 pub mixed-says : saying three (played three empty mixed) ≡ mixedSays
-unfolding run-computes three mixed mixedSays
+unfolding world-computes three mixed mixedSays
 mixed-says = refl
 
 pub mixed-refused : refusals three empty mixed ≡ mixedNumbers
-unfolding run-computes three mixed mixedNumbers
+unfolding world-computes three mixed mixedNumbers
 mixed-refused = refl
 
 -- every message in them can be written
 session-written : allWritable numbers session ≡ true
-unfolding run-computes numbers session
+unfolding world-computes numbers session
 session-written = refl
 
 returning-written : allWritable three returning ≡ true
-unfolding run-computes three returning
+unfolding world-computes three returning
 returning-written = refl
 
 mixed-written : allWritable three mixed ≡ true
-unfolding run-computes three mixed
+unfolding world-computes three mixed
 mixed-written = refl
 
 -- the same runs over lines
