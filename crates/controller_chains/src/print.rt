@@ -153,27 +153,9 @@ pub(crate) fn message(m: usize, a: Message) {
             io::write_all(1, b"\tF");
             number(label.0);
         }
-        Head::Reading {
-            label: _,
-            run: _,
-            raw: _,
-        } => {
-            io::write_all(1, b"\tM");
-        }
-        Head::Due { label: _ } => {
-            io::write_all(1, b"\tC");
-        }
-        Head::CollectingEnds { label: _ } => {
-            io::write_all(1, b"\tE");
-        }
-        Head::VotingEnds { label: _ } => {
-            io::write_all(1, b"\tV");
-        }
-        Head::Start { own: _, floor: _ } => {
-            io::write_all(1, b"\tB");
-        }
-        Head::Refused { number: _ } => {
-            io::write_all(1, b"\tX");
+        // no other kind is sent
+        _ => {
+            io::write_all(1, b"\t?");
         }
     }
 }
