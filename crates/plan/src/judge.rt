@@ -31,7 +31,7 @@ fn end(seat: usize, digest: Digest, first: Sent, why: Refusal) -> Plan
 
 impl Brief {
     // Whether the measurements and the state of the chosen digest are here.
-    pub fn possesses(self, chosen: Digest) -> bool
+    fn possesses(self, chosen: Digest) -> bool
         ensures { λ r. ⌜ r ≡ possessed self chosen ⌝ }
     {
         let state = chosen.state;

@@ -131,7 +131,7 @@ pub fn doing(effect: Effect) -> Plan
 }
 
 // An effect and a message.
-pub fn sending(effect: Effect, head: Head) -> Plan
+pub(crate) fn sending(effect: Effect, head: Head) -> Plan
     ensures { λ r. ⌜ r ≡ sends effect head ⌝ }
 {
     Plan {
@@ -143,7 +143,7 @@ pub fn sending(effect: Effect, head: Head) -> Plan
 }
 
 // An effect and two messages.
-pub fn sending_both(effect: Effect, one: Head, two: Head) -> Plan
+pub(crate) fn sending_both(effect: Effect, one: Head, two: Head) -> Plan
     ensures { λ r. ⌜ r ≡ both effect one two ⌝ }
 {
     Plan {
@@ -155,7 +155,7 @@ pub fn sending_both(effect: Effect, one: Head, two: Head) -> Plan
 }
 
 // An effect and a message behind what is sent already, with no gap.
-pub fn sending_after(effect: Effect, first: Sent, head: Head) -> Plan
+pub(crate) fn sending_after(effect: Effect, first: Sent, head: Head) -> Plan
     ensures { λ r. ⌜ r ≡ afterwards effect head first ⌝ }
 {
     match first {
