@@ -7,19 +7,29 @@ use Rattle.group.specs.WrongRules.{votesAtOnce, crashAtOnce, collectsAga
 use Rattle.group.specs.Schedules.{playedBy, unfairBy, issueIf, issues, comesOf, floorForgotten, lastFloor, floorUnstored, twoReadings, voteMadeUp, twins, broken, brokenSays, otherWeights, apart, apartSays}
 use Rattle.group.proofs.Computes.{world-computes}
 
+-- what a schedule opens, and what comes of it
+unfoldable schedule-computes : Unit {0}
+unfolding world-computes playedBy unfairBy issueIf issues comesOf
+schedule-computes = tt
+
+-- the wrong rules
+unfoldable rules-compute : Unit {0}
+unfolding votesAtOnce collectsAgain computesFromHeld shortOf stopsShort
+rules-compute = tt
+
 -- where a premise is broken, two S of one label differ
 pub broken-says : broken ≡ brokenSays
-unfolding world-computes numbers three playedBy unfairBy issueIf issues comesOf floorForgotten lastFloor floorUnstored twoReadings voteMadeUp twins
+unfolding schedule-computes numbers three floorForgotten lastFloor floorUnstored twoReadings voteMadeUp twins
 broken-says = refl
 
 -- where the settings differ, two S of one label differ
 pub apart-says : apart ≡ apartSays
-unfolding world-computes numbers otherWeights playedBy unfairBy issueIf issues comesOf
+unfolding schedule-computes numbers otherWeights
 apart-says = refl
 
 -- where a rule of the step is wrong, two S of one label differ though every premise is kept
 pub wrong-says : wrong ≡ wrongSays
-unfolding world-computes three four votesAtOnce crashAtOnce collectsAgain collectedTwice computesFromHeld heldMore shortOf stopsShort tieMissed playedBy unfairBy issueIf issues comesOf
+unfolding schedule-computes rules-compute three four crashAtOnce collectedTwice heldMore tieMissed
 wrong-says = refl
 
 -- U taken while voting: the controller is out of range from then on
