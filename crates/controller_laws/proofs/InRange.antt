@@ -1,22 +1,20 @@
 -- 6 IS GIVEN EXACTLY WHERE A CLAUSE FAILS: each test of range holds exactly when every clause of specs/InRange.antt does. Assumes nothing.
-use Prim.Native.Nat.{ℕ, _≤_, _<_, _^_}
+use Prim.Native.Nat.{ℕ, _≤_, _<_}
 use native.Mathlib.Omega.{arith}
 use mathlib.Core.Path.{_≡_, refl, sym, ap, subst, _∙_}
 use mathlib.Core.Bool.{Bool, true, false, not, true≢false, _&&_}
-use mathlib.Core.List.{List}
 use mathlib.Core.Logic.{⊎-elim}
 use lib.Dec.{eqb, leb, ltb}
-use lib.ListN.{length, getD}
-use borrow.Author.Tests.{eqb-true, eq-eqb, leb-true, le-leb, ltb-true, lt-ltb, not-true}
+use lib.ListN.{length}
+use borrow.Author.Tests.{eqb-true, eq-eqb, leb-true, le-leb, ltb-true, lt-ltb}
 use Rattle.units.specs.declared.labels.RoundLabel.{RoundLabel}
 use Rattle.units.specs.declared.refusal.Refusal.{Refusal}
 use Rattle.units.specs.declared.refusal.Refusal.the-variants.{Range}
 use Rattle.units.specs.declared.refusal.Verdict.the-variants.{Taken, Refused as Denied}
 use Rattle.units.specs.declared.settings.Numbers.{Numbers}
 use Rattle.units.specs.Labels.{floorFits}
-use Rattle.units.specs.Limits.{runsTop, controllersTop, labelTop, rawTop}
+use Rattle.units.specs.Limits.{runsTop, rawTop}
 use Rattle.units.specs.Mask.{inMask, maskEnd}
-use Rattle.units.specs.Pick.{pick}
 use Rattle.units.specs.Refusal.{numberOf}
 use Rattle.units.specs.Settings.{numbersFit}
 use Rattle.units.specs.Reading.{readingPlace}
@@ -27,43 +25,31 @@ use Rattle.floats.proofs.Places.{estimate-x, estimate-variance, estimate-made, 
 use Rattle.vote.specs.declared.digest.Digest.{Digest}
 use Rattle.vote.specs.declared.votes.Ballot.{Ballot}
 use Rattle.vote.specs.declared.votes.Ballot.the-variants.{Missing, Cast}
-use Rattle.vote.specs.declared.votes.Seat.{Seat}
 use Rattle.vote.specs.Digest.{legal}
-use Rattle.vote.specs.Vote.{seatFits, seatAt, seatsFit, nobody}
+use Rattle.vote.specs.Vote.{seatFits}
 use Rattle.message.specs.declared.head.Head.{Head}
 use Rattle.message.specs.declared.value.Message.{Message}
 use Rattle.message.specs.Message.{messageFits}
-use Rattle.message.specs.Readings.{readingAt, readingsFit}
 use Rattle.message.proofs.Ranges.{readings-length, readings-place, readings-made}
 use Rattle.plan.specs.declared.brief.Phase.{Phase}
 use Rattle.plan.specs.declared.brief.Phase.the-variants.{Idle, Collecting, Pending, Voting}
-use Rattle.plan.specs.declared.planned.Plan.{Plan}
 use Rattle.plan.specs.Votes.{ownDigest}
 use Rattle.controller.specs.declared.state.Controller.{Controller}
-use Rattle.controller.specs.declared.step.Answer.{Answer}
 use Rattle.controller.specs.Start.{started}
 use Rattle.controller.specs.State.{briefOf, ballotAt, cast, controllerFits}
 use Rattle.controller.specs.Step.{inputsFit, stepped}
 use Rattle.controller_laws.specs.Endings.{refusedOnly}
-use Rattle.controller_laws.specs.InRange.{LegalFor, ControllerInRange, InputsInRange, StartInRange}
-use Rattle.controller_laws.specs.Phases.{Busy, Early}
+use Rattle.controller_laws.specs.InRange.{ControllerInRange, InputsInRange, StartInRange}
+use Rattle.controller_laws.specs.Phases.{Early}
 use Rattle.controller_laws.specs.Reasons.{Refuses}
 use Rattle.controller_laws.specs.Reasons.Refuses.{is-unknown, is-own, is-late, is-other, is-closed, is-clash}
 use Rattle.controller_laws.proofs.Refusals.{refused-for}
-use Rattle.vote.proofs.InRange.{seats-length, seats-place, seats-made}
-use Rattle.controller_laws.proofs.Valid.{sized, Lawful, legal-facts, legal-made, Own, phase-legal, phase-own, phase-made, Valid, valid-facts, valid-made}
+use Rattle.vote.proofs.InRange.{legal-exact, seats-length, seats-place, seats-made}
+use Rattle.controller_laws.proofs.Valid.{sized, legal-facts, legal-made, Own, phase-legal, phase-own, phase-made, valid-facts, valid-made}
 
 -- another number than 6
 no-range : {why : Refusal} → eqb (numberOf why) 6 ≡ false → why ≡ Range → ⊥
 no-range e q = true≢false (sym (ap (λ (w : Refusal). eqb (numberOf w) 6) q) ∙ e)
-
--- ---- a digest
-module _ (m : ℕ) (label : RoundLabel) (d : Digest) (small : m ≤ runsTop) where
-  pub legal-exact : legal m label d ≡ true → LegalFor m label d
-  legal-exact h = let q = legal-facts m label d h in record { some-run = q .some-run; own-runs = subst (λ (n : ℕ). d .mask < n) (mask-end-is m small) (q .own-runs); older = q .older }
-
-  exact-legal : LegalFor m label d → legal m label d ≡ true
-  exact-legal q = legal-made m label d small (record { some-run = q .some-run; own-runs = subst (λ (n : ℕ). d .mask < n) (sym (mask-end-is m small)) (q .own-runs); older = q .older })
 
 -- ---- readings
 place-held : (b : Bool) (raw : ℕ) → b ≡ true → readingPlace b raw ≡ true → raw ≤ rawTop
@@ -136,7 +122,7 @@ module _ (s : Numbers) (c : Controller) (fit : numbersFit s ≡ true) where
         no-reading = λ i k e. place-bare (inMask (c .held) i) _ e (readings-place (c .held) (c .readings) (v .readings) i k);
         vote = λ i d k e.
             let q = seat-cast (ltb i (s .group .g)) m (c .label) (ballotAt c i) d e (seats-place (s .group) (c .label) (c .votes) (v .votes) i k) in
-            (ltb-true _ _ (q .0), legal-exact m (c .label) d small (q .1));
+            (ltb-true _ _ (q .0), legal-exact m (c .label) d .0 (q .1));
         busy = λ b. let q = legal-facts m (c .label) (ownDigest (briefOf c)) (phase-legal (briefOf c) m (ballotAt c (c .own)) (c .phase) (v .phase) b) in (q .some-run, q .older);
         unvoted = λ e. own-unvoted (c .phase) _ (phase-own (briefOf c) m (ballotAt c (c .own)) (c .phase) (v .phase)) e;
         voted = λ e. own-voted (c .phase) _ (phase-own (briefOf c) m (ballotAt c (c .own)) (c .phase) (v .phase)) e;
@@ -155,7 +141,7 @@ module _ (s : Numbers) (c : Controller) (fit : numbersFit s ≡ true) where
         readings = readings-made (c .held) (c .readings) (q .by-run) (λ i k. place-fits (inMask (c .held) i) _ (q .reading i k) (q .no-reading i k));
         votes =
             seats-made (s .group) (c .label) (c .votes) (q .seven)
-            (λ i k. seat-made (ltb i (s .group .g)) m (c .label) (ballotAt c i) (λ d e. let z = q .vote i d k e in (lt-ltb _ _ (z .0), exact-legal m (c .label) d small (z .1))));
+            (λ i k. seat-made (ltb i (s .group .g)) m (c .label) (ballotAt c i) (λ d e. let z = q .vote i d k e in (lt-ltb _ _ (z .0), legal-exact m (c .label) d .1 (z .1))));
         phase =
             phase-made (briefOf c) m (ballotAt c (c .own)) (c .phase)
             (λ b. let z = q .busy b in legal-made m (c .label) (ownDigest (briefOf c)) small (record { some-run = z .0; own-runs = high; older = z .1 }))

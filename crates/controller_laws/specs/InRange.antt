@@ -1,4 +1,4 @@
--- WHAT IT IS TO BE IN RANGE, clause by clause and in document 01's words: a digest, a controller state handed in as a value, the inputs of a step, a start.
+-- WHAT IT IS TO BE IN RANGE, clause by clause and in document 01's words: a controller state handed in as a value, the inputs of a step, a start.
 use Prim.Native.Nat.{ℕ, _≤_, _<_, _^_}
 use mathlib.Core.Path.{_≡_}
 use mathlib.Core.Bool.{true, false}
@@ -11,18 +11,13 @@ use Rattle.units.specs.Settings.{numbersFit}
 use Rattle.floats.specs.Ranges.{upTo, blank, noEstimate}
 use Rattle.vote.specs.declared.digest.Digest.{Digest}
 use Rattle.vote.specs.declared.votes.Ballot.the-variants.{Missing, Cast}
+use Rattle.vote.specs.InRange.{LegalDigest}
 use Rattle.message.specs.declared.value.Message.{Message}
 use Rattle.message.specs.Message.{messageFits}
 use Rattle.plan.specs.declared.brief.Phase.the-variants.{Voting}
 use Rattle.controller.specs.declared.state.Controller.{Controller}
 use Rattle.controller.specs.State.{ballotAt}
 use Rattle.controller_laws.specs.Phases.{Busy, Early}
-
--- a mask that "isn't 0000 and has no bit at m or above", and "The state label is below the label"
-pub record LegalFor (m : ℕ) (label : RoundLabel) (d : Digest) : Type 0 where
-  pub some-run : 1 ≤ d .mask
-  pub own-runs : d .mask < 2 ^ m
-  pub older : d .state .0 < label .0
 
 -- a controller state, beside settings that are in range
 pub record ControllerInRange (s : Numbers) (c : Controller) : Type 0 where
@@ -43,7 +38,7 @@ pub record ControllerInRange (s : Numbers) (c : Controller) : Type 0 where
   pub reading : (i : ℕ) → i < runsTop → inMask (c .held) i ≡ true → getD (c .readings) i 0 ≤ rawTop
   pub no-reading : (i : ℕ) → i < runsTop → inMask (c .held) i ≡ false → getD (c .readings) i 0 ≡ 0
   -- not "if a vote it holds isn't legal for its label"; no vote stands at g or above
-  pub vote : (i : ℕ) (d : Digest) → i < controllersTop → ballotAt c i ≡ Cast d → (i < s .group .g) × LegalFor (s .group .m) (c .label) d
+  pub vote : (i : ℕ) (d : Digest) → i < controllersTop → ballotAt c i ≡ Cast d → (i < s .group .g) × LegalDigest (s .group .m) (c .label) d
   -- not "if it isn't idle and holds no reading or a state label at or above its label"
   pub busy : Busy (c .phase) → (1 ≤ c .held) × (c .state .0 < c .label .0)
   -- "or its own vote while collecting or pending"
