@@ -7,7 +7,7 @@ use lib.ListN.{length, take, replicate}
 use lib.Ieee.{binary64, ofBits}
 use Rattle.units.specs.declared.estimate.Estimate.{Estimate}
 use Rattle.floats.specs.Bits.{ofWhole}
-use Rattle.filter.specs.Run.{measured, outcome, after}
+use Rattle.filter.specs.Run.{measured, outcome, estimateAfter}
 use Rattle.vote.specs.declared.digest.Digest.{Digest}
 use Rattle.vote.specs.declared.votes.Ballot.{Ballot}
 use Rattle.vote.specs.declared.votes.Ballot.the-variants.{Missing, Cast}
@@ -77,7 +77,7 @@ spelt x variance = record { x = ofBits binary64 x; variance = ofBits binary64 va
 -- what the filter's definitions leave of the run
 abbrev pub carried : RunCase → Estimate
 carried c =
-    after (numbered (c .x) (c .variance))
+    estimateAfter (numbered (c .x) (c .variance))
     (outcome (numbered (c .x) (c .variance)) (c .n) (c .q) (c .r) (isChosen (c .part)) (c .raw) (c .factor))
 
 -- the reading of a chosen run is measured as its z

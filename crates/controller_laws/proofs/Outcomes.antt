@@ -30,7 +30,7 @@ use Rattle.controller.specs.Sent.{sentMessage}
 use Rattle.controller.specs.Step.{decisionWith, planned, inputsFit, carriedOut, stepped}
 use Rattle.controller_laws.specs.Outcomes.{RoundIssued, SentBy, StateBy}
 use Rattle.controller_laws.specs.Outcomes.SentBy.{query, reply, advert, update, floor, vote, setpoints}
-use Rattle.controller_laws.specs.Outcomes.StateBy.{kept, adopted, issued, started}
+use Rattle.controller_laws.specs.Outcomes.StateBy.{kept, adopted, by-issue, by-start}
 use Rattle.controller_laws.specs.Sendings.{IsSent, OnSent}
 use Rattle.controller_laws.specs.Ways.{Votes, Leads, Goes}
 use Rattle.controller_laws.specs.Ways.Votes.{another's, ours}
@@ -97,9 +97,9 @@ module _ (s : Numbers) (c : Controller) (a : Message) where
       → StateBy s c a (carriedOut s c a (afterwards (Issue seat digest chosen) (Setpoints (c .own) (c .label) chosen) first))
   unfolding afterwards applied
   issue-state {chosen = chosen} u (another's {sender} {digest} n e f) d b p =
-      issued chosen (subst (λ (h : Head). RoundIssued s c h chosen (issuing s (counted c sender digest Idle) chosen)) (sym u) (settled (another's {sender = sender} {digest = digest} n e f) d b p)) (inl refl)
+      by-issue chosen (subst (λ (h : Head). RoundIssued s c h chosen (issuing s (counted c sender digest Idle) chosen)) (sym u) (settled (another's {sender = sender} {digest = digest} n e f) d b p)) (inl refl)
   issue-state {chosen = chosen} u (ours e) d b p =
-      issued chosen (subst (λ (h : Head). RoundIssued s c h chosen (issuing s (counted c (c .own) (ownDigest (briefOf c)) Idle) chosen)) (sym u) (settled (ours e) d b p)) (inr refl)
+      by-issue chosen (subst (λ (h : Head). RoundIssued s c h chosen (issuing s (counted c (c .own) (ownDigest (briefOf c)) Idle) chosen)) (sym u) (settled (ours e) d b p)) (inr refl)
 
   way-state : {h : Head} {p : Plan} → Leads s c a h p → a .head ≡ h → StateBy s c a (carriedOut s c a p)
   unfolding applied startOf
@@ -123,7 +123,7 @@ module _ (s : Numbers) (c : Controller) (a : Message) where
   way-state (behind w z b) u = kept refl refl
   way-state (lacking w z b g) u = kept refl refl
   way-state (issues w z b g) u = issue-state u w z b g
-  way-state restarts u = started refl refl
+  way-state restarts u = by-start refl refl
 
   -- state label and estimates change together, by U, by B, and by an issue, with which S goes out
   pub state-by : StateBy s c a (stepped s c a)

@@ -52,5 +52,5 @@ pub data SentBy (s : Numbers) (c : Controller) (h : Head) (n : Controller) : Hea
 pub data StateBy (s : Numbers) (c : Controller) (a : Message) (r : Answer) : Type 0 where
   kept : r .next .state ≡ c .state → r .next .estimates ≡ c .estimates → StateBy s c a r
   adopted : (sender : ℕ) → a .head ≡ Update sender (r .next .state) → r .next .estimates ≡ a .estimates → StateBy s c a r
-  issued : (chosen : Digest) → RoundIssued s c (a .head) chosen (r .next) → IsSent r (Setpoints (c .own) (c .label) chosen) → StateBy s c a r
-  started : r .next .state ≡ record { 0 = 0 } → r .next .estimates ≡ startEstimates (s .group .m) (s .p) → StateBy s c a r
+  by-issue : (chosen : Digest) → RoundIssued s c (a .head) chosen (r .next) → IsSent r (Setpoints (c .own) (c .label) chosen) → StateBy s c a r
+  by-start : r .next .state ≡ record { 0 = 0 } → r .next .estimates ≡ startEstimates (s .group .m) (s .p) → StateBy s c a r

@@ -11,7 +11,7 @@ use borrow.Author.Tests.{eqb-true, eqb-false}
 use Rattle.units.specs.Pick.{pick}
 use Rattle.units.proofs.Every.{no-way}
 use Rattle.fields.specs.declared.cut.Carry.{Carry}
-use Rattle.fields.specs.Cut.{Holds, GoesOn, Ends, carryTop, carryStart, cutAt, emptied, held, lineIn}
+use Rattle.fields.specs.Cut.{Holds, GoesOn, Ends, carryTop, carryStart, cutAt, emptied, heldWith, lineIn}
 use Rattle.fields.specs.Lines.{feedAt}
 use Rattle.fields.specs.Text.{lineFeed, lacks}
 use Rattle.fields.proofs.Cases.{by-test, by-lt}
@@ -70,8 +70,8 @@ module _ (k : Carry) (p q : List ℕ) (h : Holds k p) where
       ∙ ap (λ (l : List ℕ). l ++ added) (h .bytes)
       ∙ sym whole)
 
-  pub held-holds : Holds (held k q) (p ++ q)
-  unfolding held
+  pub held-holds : Holds (heldWith k q) (p ++ q)
+  unfolding heldWith
   held-holds =
       record {
         len = end-room (k .bytes) (k .len) added fits ∙ len-is;

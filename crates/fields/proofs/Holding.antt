@@ -11,7 +11,7 @@ use borrow.Author.Tests.{lt-ltb, le-ltb, eq-eqb, ne-eqb}
 use Rattle.units.specs.Pick.{pick}
 use Rattle.units.proofs.Picked.{by-yes, by-no}
 use Rattle.fields.specs.declared.cut.Carry.{Carry}
-use Rattle.fields.specs.Cut.{carryTop, cutAt, fitting, held, lineIn}
+use Rattle.fields.specs.Cut.{carryTop, cutAt, fitting, heldWith, lineIn}
 use Rattle.fields.specs.Lines.{feedAt}
 use Rattle.fields.specs.Put.{put, putEnd}
 use Rattle.fields.specs.Text.{lineFeed}
@@ -38,8 +38,8 @@ fitting-take len n l = by-lt n (carryTop - len)
 
 -- the carry after more bytes
 pub held-made : (k : Carry) (n m r : ℕ) (input s b : List ℕ) → m ≡ fitting (k .len) n → s ≡ take m input → r ≡ putEnd (k .bytes) (k .len) s → b ≡ put (k .bytes) (k .len) s
-    → record { len = r; bytes = b } ≡ held k (take n input)
-unfolding held
+    → record { len = r; bytes = b } ≡ heldWith k (take n input)
+unfolding heldWith
 held-made k n m r input s b e t p q = let u = t ∙ ap (λ j. take j input) e ∙ fitting-take (k .len) n input in rw (p, q, u)
 
 -- the line that ends
@@ -47,7 +47,7 @@ pub line-alone : (k : Carry) (more : List ℕ) → eqb (k .len) 0 ≡ true → l
 unfolding lineIn pick
 line-alone k more e = rw e
 
-pub line-whole : (k w : Carry) (more : List ℕ) → eqb (k .len) 0 ≡ false → w ≡ held k more → lineIn k more ≡ take (w .len) (w .bytes)
+pub line-whole : (k w : Carry) (more : List ℕ) → eqb (k .len) 0 ≡ false → w ≡ heldWith k more → lineIn k more ≡ take (w .len) (w .bytes)
 unfolding lineIn pick
 line-whole k w more e h = rw (e, h)
 
@@ -57,10 +57,10 @@ feed-within input n e = let a = until-short lineFeed input in omega arith
 
 -- a piece without a line feed, and one with it
 module _ (k w : Carry) (piece : List ℕ) (n : ℕ) (e : n ≡ feedAt piece) where
-  pub cut-none-made : n ≡ length piece → w ≡ held k (take n piece) → record { carry = w; took = n; ended = false } ≡ cutAt k piece
+  pub cut-none-made : n ≡ length piece → w ≡ heldWith k (take n piece) → record { carry = w; took = n; ended = false } ≡ cutAt k piece
   unfolding cutAt
   cut-none-made z h = by-yes _ (eq-eqb (feedAt piece) (length piece) (sym e ∙ z)) (rw (h, z, take-length piece))
 
-  pub cut-made : (n ≡ length piece → ⊥) → w ≡ held k (take (n + 1) piece) → record { carry = w; took = n + 1; ended = true } ≡ cutAt k piece
+  pub cut-made : (n ≡ length piece → ⊥) → w ≡ heldWith k (take (n + 1) piece) → record { carry = w; took = n + 1; ended = true } ≡ cutAt k piece
   unfolding cutAt
   cut-made z h = by-no _ (ne-eqb (feedAt piece) (length piece) (λ q. z (e ∙ q))) (rw (h, e))

@@ -26,15 +26,15 @@ emptied k = record { len = 0; bytes = k .bytes }
 unfoldable pub fitting : ℕ → ℕ → ℕ
 fitting len n = pick (ltb n (carryTop - len)) n (carryTop - len)
 
-unfoldable pub held : Carry → List ℕ → Carry
-held k more = record {
+unfoldable pub heldWith : Carry → List ℕ → Carry
+heldWith k more = record {
   len = putEnd (k .bytes) (k .len) (take (carryTop - k .len) more);
   bytes = put (k .bytes) (k .len) (take (carryTop - k .len) more);
 }
 
 -- the line that ends with these bytes
 unfoldable pub lineIn : Carry → List ℕ → List ℕ
-lineIn k more = pick (eqb (k .len) 0) more (take (held k more .len) (held k more .bytes))
+lineIn k more = pick (eqb (k .len) 0) more (take (heldWith k more .len) (heldWith k more .bytes))
 
 -- the line at hand: what is held, and a piece up to its first line feed
 abbrev pub lineEnding : Carry → List ℕ → List ℕ
@@ -43,8 +43,8 @@ lineEnding k piece = lineIn k (take (feedAt piece + 1) piece)
 -- A PIECE CUT where the line at hand ends: up to its first line feed and with it, or all of it
 unfoldable pub cutAt : Carry → List ℕ → Cut
 cutAt k piece =
-    pick (eqb (feedAt piece) (length piece)) (record { carry = held k piece; took = length piece; ended = false })
-    (record { carry = held k (take (feedAt piece + 1) piece); took = feedAt piece + 1; ended = true })
+    pick (eqb (feedAt piece) (length piece)) (record { carry = heldWith k piece; took = length piece; ended = false })
+    (record { carry = heldWith k (take (feedAt piece + 1) piece); took = feedAt piece + 1; ended = true })
 
 -- what is held is the line p so far
 pub record Holds (k : Carry) (p : List ℕ) : Type 0 where

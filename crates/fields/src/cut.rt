@@ -2,7 +2,7 @@
 ghost use mathlib.Core.Path.{_≡_};
 ghost use lib.Dec.{eqb};
 ghost use lib.ListN.{take};
-ghost use Rattle.fields.specs.Cut.{carryStart, cutAt, emptied, held};
+ghost use Rattle.fields.specs.Cut.{carryStart, cutAt, emptied, heldWith};
 use crate::line::scan;
 use crate::put::put_part;
 use units::limits::LINE;
@@ -74,7 +74,7 @@ impl Carry {
 
     // Holds the first n bytes of an input too.
     pub fn hold(self, input: &[u8], n: usize) -> Carry
-        ensures { λ r. ⌜ r ≡ held self (take n (now (input .entry))) ⌝ }
+        ensures { λ r. ⌜ r ≡ heldWith self (take n (now (input .entry))) ⌝ }
     {
         let mut bytes = self.bytes;
         let k = fitting(self.len, n);

@@ -29,8 +29,8 @@ use Rattle.floats.specs.Ranges.{stateFits}
 use Rattle.floats.proofs.Places.{state-exact, targets-exact}
 use Rattle.filter.specs.declared.checked.Checked.{Checked}
 use Rattle.filter.specs.Compute.{computed}
-use Rattle.filter.specs.Checked.{readingAt, readingsFit, inputsFit, answer, checked}
-use Rattle.filter.specs.InRange.{InputsInRange, ComputedInRange}
+use Rattle.filter.specs.Checked.{readingAt, readingsFit, computingFits, answer, checked}
+use Rattle.filter.specs.InRange.{ComputingInRange, ComputedInRange}
 use Rattle.filter.proofs.Laws.{state-range, new-total-range, given-range}
 
 -- a run's reading is in range
@@ -58,17 +58,17 @@ module _ (label : RoundLabel) (base : StateLabel) (state : List Estimate) (s : N
   m = s .group .m
 
   -- the five tests
-  inputs-parts : inputsFit label base state s chosen readings ≡ true
+  computing-parts : computingFits label base state s chosen readings ≡ true
       → (numbersFit s ≡ true) × (stateFits m state ≡ true) × (before base label ≡ true) × (maskFits m chosen ≡ true) × (readingsFit m readings ≡ true)
-  unfolding inputsFit
-  inputs-parts h =
+  unfolding computingFits
+  computing-parts h =
       let a = and-left (numbersFit s && stateFits m state) _ h in
       let k = and-three (before base label) (maskFits m chosen) (readingsFit m readings) (and-right (numbersFit s && stateFits m state) _ h) in
       (and-left (numbersFit s) (stateFits m state) a, and-right (numbersFit s) (stateFits m state) a, k .0, k .1, k .2)
 
-  inputs-range : inputsFit label base state s chosen readings ≡ true → InputsInRange label base state s chosen readings
-  inputs-range h =
-      let k = inputs-parts h in
+  computing-range : computingFits label base state s chosen readings ≡ true → ComputingInRange label base state s chosen readings
+  computing-range h =
+      let k = computing-parts h in
       let n = numbers-range s (k .0) in
       record {
         settings = n;
@@ -80,44 +80,44 @@ module _ (label : RoundLabel) (base : StateLabel) (state : List Estimate) (s : N
         no-reading = λ i l b. reading-none m readings i (k .4) l b;
       }
 
-  inputs-made : InputsInRange label base state s chosen readings → inputsFit label base state s chosen readings ≡ true
-  unfolding inputsFit
-  inputs-made f =
+  computing-made : ComputingInRange label base state s chosen readings → computingFits label base state s chosen readings ≡ true
+  unfolding computingFits
+  computing-made f =
       let own : chosen < maskEnd m = omega (arith, f .own-runs, mask-end-is m (f .settings .runs .1)) in
       and-both (and-both (numbers-made s (f .settings)) (state-exact m state .1 (f .estimates)))
       (and-both (and-both (lt-ltb (base .0) (label .0) (f .older)) (and-both (le-leb 1 chosen (f .some-run)) (lt-ltb chosen (maskEnd m) own)))
       (readings-made m readings (f .reading) (f .no-reading)))
 
   -- IN RANGE EXACTLY WHEN each clause of document 01 holds
-  pub inputs-exact : (inputsFit label base state s chosen readings ≡ true → InputsInRange label base state s chosen readings)
-      × (InputsInRange label base state s chosen readings → inputsFit label base state s chosen readings ≡ true)
-  inputs-exact = (inputs-range, inputs-made)
+  pub computing-exact : (computingFits label base state s chosen readings ≡ true → ComputingInRange label base state s chosen readings)
+      × (ComputingInRange label base state s chosen readings → computingFits label base state s chosen readings ≡ true)
+  computing-exact = (computing-range, computing-made)
 
   -- in range: taken, and what `computed` gives
-  pub checked-in : inputsFit label base state s chosen readings ≡ true
+  pub checked-in : computingFits label base state s chosen readings ≡ true
       → checked label base state s chosen readings ≡ record { verdict = Taken; computed = computed label base state s chosen readings }
   unfolding checked answer
   checked-in h = ap (λ (b : Bool). answer b label base state s chosen readings) h
 
   -- out of range: 6, the state as it was, every target +0
-  pub checked-out : inputsFit label base state s chosen readings ≡ false
+  pub checked-out : computingFits label base state s chosen readings ≡ false
       → checked label base state s chosen readings ≡ record { verdict = Refused Range; computed = record { state = state; targets = replicate 16 nought } }
   unfolding checked answer
   checked-out h = ap (λ (b : Bool). answer b label base state s chosen readings) h
 
   -- only what is in range is taken
-  pub taken-inputs : checked label base state s chosen readings .verdict ≡ Taken → inputsFit label base state s chosen readings ≡ true
-  taken-inputs h = told (inputsFit label base state s chosen readings) refl
+  pub taken-computing : checked label base state s chosen readings .verdict ≡ Taken → computingFits label base state s chosen readings ≡ true
+  taken-computing h = told (computingFits label base state s chosen readings) refl
     where
-      told : (b : Bool) → inputsFit label base state s chosen readings ≡ b → inputsFit label base state s chosen readings ≡ true
+      told : (b : Bool) → computingFits label base state s chosen readings ≡ b → computingFits label base state s chosen readings ≡ true
       told true e = e
       told false e = absurd (omega (arith, ap verdictNumber (sym (ap (λ (c : Checked). c .verdict) (checked-out e)) ∙ h)))
 
   -- and what is taken gives a state, a total and targets in range, whatever was handed in
   pub taken-range : checked label base state s chosen readings .verdict ≡ Taken → ComputedInRange m (checked label base state s chosen readings .computed)
   taken-range h =
-      let k = inputs-parts (taken-inputs h) in
-      subst (ComputedInRange m) (sym (ap (λ (c : Checked). c .computed) (checked-in (taken-inputs h))))
+      let k = computing-parts (taken-computing h) in
+      subst (ComputedInRange m) (sym (ap (λ (c : Checked). c .computed) (checked-in (taken-computing h))))
       (record {
         estimates = state-exact m _ .0 (state-range label base state s chosen readings (k .1));
         total-x = new-total-range label base state s chosen readings (k .0) (k .1);

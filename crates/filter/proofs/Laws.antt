@@ -24,7 +24,7 @@ use Rattle.floats.specs.Bits.{nought}
 use Rattle.floats.specs.Ranges.{upTo, estimateFits, noEstimate, stateFits, targetsFit}
 use Rattle.floats.proofs.Limits.{nought-range}
 use Rattle.floats.proofs.Places.{estimate-x, estimate-made, state-run, state-blank, state-made, targets-made}
-use Rattle.filter.specs.Run.{atMost, grown, moved, shrunk, outcome, after}
+use Rattle.filter.specs.Run.{atMost, grown, moved, shrunk, outcome, estimateAfter}
 use Rattle.filter.specs.Runs.{place, runAfter, runsAfter}
 use Rattle.filter.specs.Share.{addAll, total, sumOf, weightSum, share, shared, targets}
 use Rattle.filter.specs.Compute.{newState, setPoints, computed}
@@ -36,7 +36,7 @@ grown-fits : (p : Float) (n q : ℕ) → T (fits binary64 (grown p n q))
 unfolding grown atMost
 grown-fits p n q = cond-fits binary64 (lt _ (add binary64 p _)) _ (add binary64 p _) (ofInt-fits binary64 _) (add-fits binary64 p _)
 
-outcome-fits : (e : Estimate) (n q r : ℕ) (b : Bool) (raw factor : ℕ) → estimateFits e ≡ true → estimateFits (after e (outcome e n q r b raw factor)) ≡ true
+outcome-fits : (e : Estimate) (n q r : ℕ) (b : Bool) (raw factor : ℕ) → estimateFits e ≡ true → estimateFits (estimateAfter e (outcome e n q r b raw factor)) ≡ true
 unfolding outcome moved shrunk
 outcome-fits e n q r true raw factor h = estimate-made _ (limited-range xTop _ (lit≤ tt) (add-fits binary64 _ _)) (limited-range varianceTop _ (lit≤ tt) (mul-fits binary64 _ _))
 outcome-fits e n q r false raw factor h = estimate-made _ (estimate-x e h) (limited-range varianceTop _ (lit≤ tt) (grown-fits (e .variance) n q))
@@ -48,7 +48,7 @@ outcome-same e n q r false raw raw' factor h = refl
 
 place-same : (u : Bool) (e : Estimate) (n q r : ℕ) (b : Bool) (raw raw' factor : ℕ) → (u ≡ true → b ≡ true → raw ≡ raw') → place u e n q r b raw factor ≡ place u e n q r b raw' factor
 unfolding place
-place-same true e n q r b raw raw' factor h = ap (after e) (outcome-same e n q r b raw raw' factor (h refl))
+place-same true e n q r b raw raw' factor h = ap (estimateAfter e) (outcome-same e n q r b raw raw' factor (h refl))
 place-same false e n q r b raw raw' factor h = refl
 
 -- ---- all runs

@@ -29,9 +29,9 @@ unfoldable pub readingsFit : ℕ → List ℕ → Bool
 readingsFit m readings = every (readingAt m readings) runsTop
 
 -- a base below the label, which is then not 0
-unfoldable pub inputsFit : RoundLabel → StateLabel → List Estimate → Numbers → ℕ → List ℕ → Bool
+unfoldable pub computingFits : RoundLabel → StateLabel → List Estimate → Numbers → ℕ → List ℕ → Bool
 unfolding readingsFit
-inputsFit label base state s chosen readings =
+computingFits label base state s chosen readings =
     (numbersFit s && stateFits (s .group .m) state)
     && (before base label && maskFits (s .group .m) chosen && readingsFit (s .group .m) readings)
 
@@ -43,6 +43,6 @@ answer false label base state s chosen readings =
     record { verdict = Refused Range; computed = record { state = state; targets = replicate runsTop nought } }
 
 unfoldable pub checked : RoundLabel → StateLabel → List Estimate → Numbers → ℕ → List ℕ → Checked
-unfolding inputsFit answer
+unfolding computingFits answer
 checked label base state s chosen readings =
-    answer (inputsFit label base state s chosen readings) label base state s chosen readings
+    answer (computingFits label base state s chosen readings) label base state s chosen readings

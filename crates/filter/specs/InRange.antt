@@ -1,5 +1,5 @@
--- Clause by clause, in document 01's words: what is handed to computing with nothing out of range, and what is taken. What `inputsFit` is to be; that it
--- is is `inputs-exact` of proofs/Inputs.antt, and that everything taken stays in range is `taken-range`.
+-- Clause by clause, in document 01's words: what is handed to computing with nothing out of range, and what is taken. What `computingFits` is to be; that it
+-- is is `computing-exact` of proofs/Inputs.antt, and that everything taken stays in range is `taken-range`.
 use Prim.Native.Nat.{ℕ, _^_, _≤_, _<_}
 use mathlib.Core.Path.{_≡_}
 use mathlib.Core.Bool.{true}
@@ -17,7 +17,7 @@ use Rattle.filter.specs.Share.{total}
 
 -- settings and a state in range; "The state label is below the label"; a mask that "isn't 0000 and has no bit at m or above"; "raw reading .. 0..1,000,000"
 -- of each run, and 0 at a place that is no run
-pub record InputsInRange (label : RoundLabel) (base : StateLabel) (state : List Estimate) (s : Numbers) (chosen : ℕ) (readings : List ℕ) : Type 0 where
+pub record ComputingInRange (label : RoundLabel) (base : StateLabel) (state : List Estimate) (s : Numbers) (chosen : ℕ) (readings : List ℕ) : Type 0 where
   pub settings : NumbersInRange s
   pub estimates : StateInRange (s .group .m) state
   pub older : base .0 < label .0

@@ -48,6 +48,6 @@ outcome e n q r true raw factor =
 outcome e n q r false raw factor = Predicted (limited (ofWhole varianceTop) (grown (e .variance) n q))
 
 -- the values of an outcome: document 01's x and P after the round
-abbrev pub after : Estimate → Outcome → Estimate
-after e (Updated x p) = record { x = x; variance = p }
-after e (Predicted p) = record { x = e .x; variance = p }
+abbrev pub estimateAfter : Estimate → Outcome → Estimate
+estimateAfter e (Updated x p) = record { x = x; variance = p }
+estimateAfter e (Predicted p) = record { x = e .x; variance = p }

@@ -10,12 +10,12 @@ use Rattle.units.specs.Limits.{runsTop}
 use Rattle.units.specs.Mask.{inMask}
 use Rattle.units.specs.Tab.{tab}
 use Rattle.floats.specs.Ranges.{noEstimate}
-use Rattle.filter.specs.Run.{outcome, after}
+use Rattle.filter.specs.Run.{outcome, estimateAfter}
 
 -- a run's place after a round; a place that is no run stays
 unfoldable pub place : Bool → Estimate → ℕ → ℕ → ℕ → Bool → ℕ → ℕ → Estimate
 unfolding outcome
-place true e n q r chosen raw factor = after e (outcome e n q r chosen raw factor)
+place true e n q r chosen raw factor = estimateAfter e (outcome e n q r chosen raw factor)
 place false e n q r chosen raw factor = e
 
 abbrev pub runAfter : List Estimate → ℕ → Numbers → ℕ → List ℕ → ℕ → Estimate

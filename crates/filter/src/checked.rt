@@ -1,6 +1,6 @@
 // Computing on values that may be out of range: those get 6, and change nothing.
 ghost use mathlib.Core.Path.{_≡_};
-ghost use Rattle.filter.specs.Checked.{checked, inputsFit, readingsFit};
+ghost use Rattle.filter.specs.Checked.{checked, computingFits, readingsFit};
 use crate::compute::Computed;
 use crate::compute::compute;
 use floats::ranges::state_in_range;
@@ -32,7 +32,7 @@ pub(crate) fn readings_in_range(m: usize, readings: [u32; 16]) -> bool
     fit
 }
 
-fn inputs_in_range(
+fn computing_in_range(
     label: RoundLabel,
     base: StateLabel,
     state: [Estimate; 16],
@@ -40,7 +40,7 @@ fn inputs_in_range(
     chosen: u32,
     readings: [u32; 16],
 ) -> bool
-    ensures { λ r. ⌜ r ≡ inputsFit label base state numbers chosen readings ⌝ }
+    ensures { λ r. ⌜ r ≡ computingFits label base state numbers chosen readings ⌝ }
 {
     let m = numbers.group.m;
     let station = numbers.in_range() & state_in_range(state, m);
@@ -58,7 +58,7 @@ pub fn compute_checked(
 ) -> Checked
     ensures { λ r. ⌜ r ≡ checked label base state numbers chosen readings ⌝ }
 {
-    if inputs_in_range(label, base, state, numbers, chosen, readings) {
+    if computing_in_range(label, base, state, numbers, chosen, readings) {
         let computed = compute(label, base, state, numbers, chosen, readings);
         Checked {
             verdict: Verdict::Taken,

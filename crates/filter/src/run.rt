@@ -1,9 +1,9 @@
 // One run: its variance grown, its reading measured, its estimate moved.
 ghost use mathlib.Core.Path.{_≡_};
-ghost use Rattle.filter.specs.Run.{grown, measured, gain, moved, shrunk, outcome, after};
-use crate::hold::at_most;
-use crate::hold::hold;
-use crate::hold::product;
+ghost use Rattle.filter.specs.Run.{grown, measured, gain, moved, shrunk, outcome, estimateAfter};
+use crate::limit::at_most;
+use crate::limit::limit;
+use crate::limit::product;
 use units::Estimate;
 use units::limits::FACTOR_SCALE;
 use units::limits::VARIANCE_TOP;
@@ -40,14 +40,14 @@ pub(crate) fn gain_of(p1: f64, r: u32) -> f64
 pub(crate) fn move_by(x: f64, k: f64, z: f64) -> f64
     ensures { λ s. ⌜ s ≡ moved x k z ⌝ }
 {
-    hold(X_TOP, x + k * (z - x))
+    limit(X_TOP, x + k * (z - x))
 }
 
 // The new P, from k and P1.
 pub(crate) fn shrink(k: f64, p1: f64) -> f64
     ensures { λ s. ⌜ s ≡ shrunk k p1 ⌝ }
 {
-    hold(VARIANCE_TOP, (1.0 - k) * p1)
+    limit(VARIANCE_TOP, (1.0 - k) * p1)
 }
 
 // One run, n rounds after its state.
@@ -72,14 +72,14 @@ pub(crate) fn run(
         }
     } else {
         Outcome::Predicted {
-            variance: hold(VARIANCE_TOP, p1),
+            variance: limit(VARIANCE_TOP, p1),
         }
     }
 }
 
 // What an outcome leaves of a run.
-pub(crate) fn settle(e: Estimate, o: Outcome) -> Estimate
-    ensures { λ s. ⌜ s ≡ after e o ⌝ }
+pub(crate) fn estimate_after(e: Estimate, o: Outcome) -> Estimate
+    ensures { λ s. ⌜ s ≡ estimateAfter e o ⌝ }
 {
     match o {
         Outcome::Updated { x, variance } => Estimate { x, variance },

@@ -2,7 +2,7 @@
 ghost use mathlib.Core.Path.{_≡_};
 ghost use Rattle.filter.specs.Runs.{place, runsAfter};
 use crate::run::run;
-use crate::run::settle;
+use crate::run::estimate_after;
 use units::Estimate;
 use units::Numbers;
 use units::limits::RUNS;
@@ -22,7 +22,7 @@ fn place_after(
     ensures { λ s. ⌜ s ≡ place used e n q r chosen raw factor ⌝ }
 {
     if used {
-        settle(e, run(e, n, q, r, chosen, raw, factor))
+        estimate_after(e, run(e, n, q, r, chosen, raw, factor))
     } else {
         e
     }

@@ -2,7 +2,7 @@
 ghost use mathlib.Core.Path.{_≡_};
 ghost use Prim.Native.Nat.{_≤_};
 ghost use Rattle.filter.specs.Share.{share, target, targets, total, weightSum};
-use crate::hold::at_most;
+use crate::limit::at_most;
 use units::Estimate;
 use units::Numbers;
 use units::limits::RUNS;

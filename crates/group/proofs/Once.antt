@@ -30,7 +30,7 @@ use Rattle.controller_laws.proofs.Fits.{step-fits, started-fits}
 use Rattle.controller_laws.proofs.Outcomes.{sent-by, start-step}
 use Rattle.controller_laws.proofs.Rises.{step-rises}
 use Rattle.controller_laws.proofs.Sendings.{sent-fits, vote-once}
-use Rattle.group.specs.World.{here, next, World, empty, hand, store, crash, put, withUp, sentBy, rising, answered, handed}
+use Rattle.group.specs.World.{here, next, World, empty, hand, store, crash, put, withUp, sentBy, rising, afterAnswer, handed}
 use Rattle.group.specs.Premises.{Meters, Released, Enough, Run}
 use Rattle.group.proofs.Sent.{no-one, same-one, put-cases, risen-by, new-or-old, released-by, start-or-not}
 
@@ -159,7 +159,7 @@ module _ (s : Numbers) (meters : Meters) where
       in-range x k =
           ⊎-elim (λ f. ap (messageFits (s .group)) (f .whole) ∙ sent-fits s c a (f .head) (f .out)) (λ n. o .lines x n) (new-or-old s r (w .sent) x k)
 
-      once-answered : Once (answered s w i (a .head) r)
+      once-answered : Once (afterAnswer s w i (a .head) r)
       once-answered =
           record {
             own = λ j n e. elim (stands-on j n e) [ inl p ↦ ap (λ (k : Controller). k .own) (sym (p .1)) ∙ m .own ∙ sym (p .0) | inr p ↦ o .own j n (p .1) ];

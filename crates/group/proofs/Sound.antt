@@ -37,12 +37,12 @@ use Rattle.controller_laws.specs.Changes.ReadingFrom.{was-held, by-reading, by-
 use Rattle.controller_laws.specs.Changes.VoteFrom.{was-cast, by-digest, by-floor}
 use Rattle.controller_laws.specs.Outcomes.{RoundIssued, SentBy, StateBy}
 use Rattle.controller_laws.specs.Outcomes.SentBy.{query, reply, advert, update, floor, vote, setpoints}
-use Rattle.controller_laws.specs.Outcomes.StateBy.{kept, adopted, issued as by-issue, started as by-start}
+use Rattle.controller_laws.specs.Outcomes.StateBy.{kept, adopted, by-issue, by-start}
 use Rattle.controller_laws.specs.Sendings.{IsSent}
 use Rattle.controller_laws.proofs.Changes.{readings-from, votes-from, no-vote}
 use Rattle.controller_laws.proofs.Held.{merged-place}
 use Rattle.controller_laws.proofs.Outcomes.{sent-by, sent-head, state-by}
-use Rattle.group.specs.World.{here, next, World, hand, store, crash, withUp, rising, answered, handed}
+use Rattle.group.specs.World.{here, next, World, hand, store, crash, withUp, rising, afterAnswer, handed}
 use Rattle.group.specs.Premises.{Meters, Released, Enough, Run}
 use Rattle.group.specs.Demand.{Issued, Canon, at-start, of-issued, Right, WonBy}
 use Rattle.group.proofs.Computing.{chosen-state, issued-state, issued-targets}
@@ -221,7 +221,7 @@ module _ (s : Numbers) (meters : Meters) (sent : List Message) (lines : (x : Mes
   sound-put : (w : World) → Sound w → (i : ℕ) (u : Option Controller) → ((n : Controller) → u ≡ some n → Fine n) → Sound (withUp w i u)
   sound-put w o i u f = record { each = λ j c e. elim (put-cases (w .up) i u j c e) [ inl p ↦ f c (p .1) | inr p ↦ o .each j c (p .1) ]; said = o .said }
 
-  module _ (w : World) (o : Sound w) (i : ℕ) (c : Controller) (at : w .up i ≡ some c) (a : Message) (p : Enough meters w i a) (sub : Within (answered s w i (a .head) (stepped s c a))) where
+  module _ (w : World) (o : Sound w) (i : ℕ) (c : Controller) (at : w .up i ≡ some c) (a : Message) (p : Enough meters w i a) (sub : Within (afterAnswer s w i (a .head) (stepped s c a))) where
     abbrev r : Answer
     r = stepped s c a
 
@@ -239,7 +239,7 @@ module _ (s : Numbers) (meters : Meters) (sent : List Message) (lines : (x : Mes
     issues-out j label d e =
         record { line = sentMessage s (r .next) (Setpoints j label d) (Setpoints j label d); among = out-there (Setpoints j label d) e; by = j; said = sent-head s (r .next) _ (Setpoints j label d) }
 
-    sound-answered : Sound (answered s w i (a .head) r)
+    sound-answered : Sound (afterAnswer s w i (a .head) r)
     sound-answered =
         record {
           each = λ j n e. elim (put-cases (w .up) i (some (r .next)) j n e) [

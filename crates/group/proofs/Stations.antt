@@ -36,7 +36,7 @@ use Rattle.session.specs.Booting.{led, told}
 use Rattle.session.specs.Demand.{spokenIn, stepBy}
 use Rattle.session.specs.Reach.{FitsAt, CoreFits}
 use Rattle.fields.specs.Lines.{linesOf}
-use Rattle.session.specs.Turn.{Turn, numbersIn, groupIn, coreStart, runningWith, quiet, refusing, hears, answered, turnBy, turn}
+use Rattle.session.specs.Turn.{Turn, numbersIn, groupIn, coreStart, runningWith, quiet, refusing, hears, stepTurn, turnBy, turn}
 use Rattle.session.proofs.Demand2.{turn-steps}
 use Rattle.session.proofs.Fits.{start-fits, turn-fits}
 use Rattle.session.proofs.Program.{waits-closed, first-start}
@@ -218,7 +218,7 @@ module _ (w : Stations) (i : ℕ) (ln : List ℕ) (c : Core) (u : w .up i ≡ so
       ap (confirming i (spokenIn c ln .head) (readLine (groupIn c) ln .verdict)) st ∙ ap (λ (x : Verdict). confirming i (spokenIn c ln .head) x Running) v in
       hears-as s (wireIn s w) i (spokenIn c ln) _ (some (c .controller)) v (ap controllerIn u ∙ ap (controllerAt c) st)
       ∙ sym ((λ t. wireIn s (made (turn-steps c ln st v t) (z t)))
-      ∙ wire-made (answered c (stepBy c ln)) (confirms i (spokenIn c ln .head)) (some (stepBy c ln .next)) _ refl (spoken-step s (c .controller) (spokenIn c ln) (w .sent)))
+      ∙ wire-made (stepTurn c (stepBy c ln)) (confirms i (spokenIn c ln .head)) (some (stepBy c ln .next)) _ refl (spoken-step s (c .controller) (spokenIn c ln) (w .sent)))
 
 module _ (s : Numbers) (meters : Meters) where
   abbrev Follow : Stations → Stations → Type 0

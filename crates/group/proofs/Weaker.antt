@@ -12,7 +12,7 @@ use Rattle.message.proofs.Views.{telling-exchanged}
 use Rattle.message.specs.declared.value.Message.{Message}
 use Rattle.controller.specs.declared.state.Controller.{Controller}
 use Rattle.controller.specs.Step.{stepped}
-use Rattle.group.specs.World.{mark, hand, store, crash, On, here, next, World, Event, confirms, answered, handed, after}
+use Rattle.group.specs.World.{mark, hand, store, crash, On, here, next, World, Event, confirms, afterAnswer, handed, after}
 use Rattle.group.specs.Premises.{Meters, Released, Kept, Enough, Onward, Run}
 use Rattle.group.proofs.Sent.{released-by}
 use Rattle.group.proofs.Later.{continued}
@@ -23,7 +23,7 @@ abbrev pub Confirmed : World → Type 0
 Confirmed w = (i : ℕ) (label : RoundLabel) (d : Digest) → Released (w .sent) i label d → List·Memᴰ (mark i label) (w .confirmed)
 
 module _ (s : Numbers) (meters : Meters) where
-  confirmed-answered : (w : World) → Once s meters w → Confirmed w → (i : ℕ) (c : Controller) → w .up i ≡ some c → (a : Message) → Confirmed (answered s w i (a .head) (stepped s c a))
+  confirmed-answered : (w : World) → Once s meters w → Confirmed w → (i : ℕ) (c : Controller) → w .up i ≡ some c → (a : Message) → Confirmed (afterAnswer s w i (a .head) (stepped s c a))
   confirmed-answered w o f i c at a j label d p =
       ⊎-elim (λ q. now (own-vote s c a j label d q)) (λ q. Memᴰ·append-right (confirms i (a .head)) (f j label d q))
       (released-by s (stepped s c a) (w .sent) j label d p)

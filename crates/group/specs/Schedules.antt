@@ -13,7 +13,7 @@ use Rattle.controller.specs.declared.state.Controller.{Controller}
 use Rattle.controller.specs.declared.step.Answer.{Answer}
 use Rattle.controller.specs.Step.{stepped}
 use Rattle.controller_laws.specs.Session.{Line, line, sends, numbers}
-use Rattle.group.specs.World.{empty, afterBy, World, answered, handed}
+use Rattle.group.specs.World.{empty, afterBy, World, afterAnswer, handed}
 use Rattle.group.specs.Scripts.{Act, give, pass, keep, fall, eventOf, fair}
 use Rattle.group.specs.Examples.{round, stateOf, bothRuns, steady, three}
 
@@ -25,7 +25,7 @@ Stepping = Numbers → Controller → Message → Answer
 
 abbrev pub handedBy : Stepping → Numbers → World → ℕ → Message → Option Controller → World
 handedBy step s w i a none = handed s w i a none
-handedBy step s w i a (some c) = answered s w i (a .head) (step s c a)
+handedBy step s w i a (some c) = afterAnswer s w i (a .head) (step s c a)
 
 abbrev pub playing : Stepping → Numbers → World → Act → World
 playing step s w x = afterBy (λ v i a. handedBy step s v i a (v .up i)) w (eventOf w x)

@@ -95,8 +95,8 @@ abbrev pub confirms : ℕ → Head → List Mark
 confirms i head = onFloor (λ label. mark i label ∷ []) [] head
 
 -- a message taken by a controller, with the answer of its step
-abbrev pub answered : Numbers → World → ℕ → Head → Answer → World
-answered s w i head r = record { up = put (w .up) i (some (r .next)); sent = sentBy s r (w .sent); stored = w .stored; confirmed = confirms i head ++ w .confirmed }
+abbrev pub afterAnswer : Numbers → World → ℕ → Head → Answer → World
+afterAnswer s w i head r = record { up = put (w .up) i (some (r .next)); sent = sentBy s r (w .sent); stored = w .stored; confirmed = confirms i head ++ w .confirmed }
 
 -- a start that is refused leaves the number down
 abbrev pub begun : Controller → Verdict → Option Controller
@@ -110,7 +110,7 @@ rising s head = onStart (λ own floor. begun (started s own floor .controller) (
 -- to a running controller B is a message as any other, and restarts it
 abbrev pub handed : Numbers → World → ℕ → Message → Option Controller → World
 handed s w i a none = withUp w i (rising s (a .head))
-handed s w i a (some c) = answered s w i (a .head) (stepped s c a)
+handed s w i a (some c) = afterAnswer s w i (a .head) (stepped s c a)
 
 abbrev pub hands : Numbers → Takes Controller Message Message
 hands s w i a = handed s w i a (w .up i)

@@ -55,17 +55,17 @@ use Rattle.session.specs.Demand.{spokenIn, stepBy}
 use Rattle.session.specs.Feeding.{finished, lastTurn, sessionStart}
 use Rattle.session.specs.Pieces.{Feeds}
 use Rattle.session.specs.Station.{station}
-use Rattle.session.specs.Turn.{groupIn, answered, turnBy, stepping, turn}
+use Rattle.session.specs.Turn.{groupIn, stepTurn, turnBy, stepping, turn}
 use Rattle.session.proofs.Turns.{hears-taken}
 use Rattle.session.proofs.Sent.{sent-back}
 use Rattle.session.proofs.Whole.{whole}
 
 -- a running core's turn is a step
-turn-at : (c : Core) (line : List ℕ) (stage : Stage) → stage ≡ Running → readLine (groupIn c) line .verdict ≡ Taken → turnBy stepping c line stage ≡ answered c (stepBy c line)
+turn-at : (c : Core) (line : List ℕ) (stage : Stage) → stage ≡ Running → readLine (groupIn c) line .verdict ≡ Taken → turnBy stepping c line stage ≡ stepTurn c (stepBy c line)
 unfolding turnBy
 turn-at c line stage e t = rw e (hears-taken (stepping c) c (spokenIn c line) t)
 
-pub turn-steps : (c : Core) (line : List ℕ) → c .stage ≡ Running → readLine (groupIn c) line .verdict ≡ Taken → turn c line ≡ answered c (stepBy c line)
+pub turn-steps : (c : Core) (line : List ℕ) → c .stage ≡ Running → readLine (groupIn c) line .verdict ≡ Taken → turn c line ≡ stepTurn c (stepBy c line)
 turn-steps c line e t = turn-at c line (c .stage) e t
 
 -- what is issued for `chosen` by the controller c that took the message h: why it is that digest, and that the state after the step and the targets of its S are
@@ -131,7 +131,7 @@ pub record Demand2 : Type 0 where
   pub settings-spelling : (lines : List (List ℕ)) (end : Settling) → settleAll lines settlingStart ≡ wholeAt end → SettingsSpelt lines (end .settings)
   -- "Every step does what the Quarts report and document 01 define, bit for bit": a line that is read by a running controller is one step of `stepped`,
   -- next state and answer ..
-  pub each-step : (c : Core) (line : List ℕ) → c .stage ≡ Running → readLine (groupIn c) line .verdict ≡ Taken → turn c line ≡ answered c (stepBy c line)
+  pub each-step : (c : Core) (line : List ℕ) → c .stage ≡ Running → readLine (groupIn c) line .verdict ≡ Taken → turn c line ≡ stepTurn c (stepBy c line)
   -- .. whenever an S goes out, it names what the votes held are decided for and what is here, and the state after it and its targets are filter's `computed` in IEEE 754 binary64, of what the controller held ..
   pub each-issue : (s : Numbers) (c : Controller) (a : Message) (sender : ℕ) (label : RoundLabel) (chosen : Digest) → IsSent (stepped s c a) (Setpoints sender label chosen)
       → Issued s c (a .head) chosen (stepped s c a .next) (sentMessage s (stepped s c a .next) (Setpoints sender label chosen) (Setpoints sender label chosen) .targets)

@@ -14,7 +14,7 @@ use Rattle.floats.specs.Bits.{bitsOf, floatOf, sameFloat}
 use Rattle.floats.specs.Ranges.{estimateFits, sameEstimate, stateFits, targetsFit}
 use Rattle.vote.specs.Digest.{legal, same, rank, unrank, full, least}
 use Rattle.vote.specs.Vote.{seatFits, seatsFit, votesFit}
-use Rattle.vote.specs.Decision.{tallyOf, strengthOf, largest, otherThan, outsider, missingOf, heldOff, rivalOf, settledAt, settled, decision}
+use Rattle.vote.specs.Decision.{tallyOf, strengthOf, largest, otherThan, outsider, missingOf, heldOff, rivalOf, ruledAt, ruled, decision}
 use Rattle.filter.specs.Run.{atMost, limited, grown, measured, gain, moved, shrunk, outcome}
 use Rattle.filter.specs.Runs.{place, runsAfter}
 use Rattle.filter.specs.Share.{addAll, total, sumOf, weightSum, target, share, targets}
@@ -80,7 +80,7 @@ unfolding tallyOf strengthOf largest otherThan outsider missingOf
 judge-computes = tt
 
 unfoldable judge-also : Unit {0}
-unfolding heldOff rivalOf settledAt settled decision
+unfolding heldOff rivalOf ruledAt ruled decision
 judge-also = tt
 
 -- 'Computing'

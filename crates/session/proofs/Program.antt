@@ -27,7 +27,7 @@ use Rattle.session.specs.declared.stage.Stage.the-variants.{Settling as 
 use Rattle.session.specs.Demand.{spokenIn}
 use Rattle.session.specs.Reach.{FitsAt, CoreFits}
 use Rattle.session.specs.Station.{closing, answers}
-use Rattle.session.specs.Turn.{Turn, numbersIn, groupIn, settledIn, runningWith, quiet, refusing, settlesTo, waitsFor, hears, sentText, verdictText, answerText, answered, turnBy, stepping, turn}
+use Rattle.session.specs.Turn.{Turn, numbersIn, groupIn, settledIn, runningWith, quiet, refusing, settlesTo, waitsFor, hears, sentText, verdictText, answerText, stepTurn, turnBy, stepping, turn}
 use Rattle.session.proofs.Demand2.{turn-steps}
 use Rattle.session.proofs.Same.{step-same}
 use Rattle.session.proofs.Turns.{turn-ended, waits-other}
@@ -76,5 +76,5 @@ unfolding answerText sentText verdictText planned applied
 later-start c line own floor s f v e =
     let g : FitsAt c Running = rw s at f in
     turn-steps c line s v
-    ∙ ap (λ (r : Answer). answered c r) (step-same (numbersIn c) (c .controller) (spokenIn c line) (g .0) (g .1) (read-fits (groupIn c) line v))
+    ∙ ap (λ (r : Answer). stepTurn c r) (step-same (numbersIn c) (c .controller) (spokenIn c line) (g .0) (g .1) (read-fits (groupIn c) line v))
     ∙ rw e

@@ -18,7 +18,7 @@ use Rattle.message.specs.declared.value.Message.{Message}
 use Rattle.message.specs.Message.{messageFits}
 use Rattle.plan.specs.declared.planned.Sent.{Sent}
 use Rattle.plan.specs.declared.planned.Sent.the-variants.{Nothing, One}
-use Rattle.fields.specs.Cut.{carryStart, emptied, held, lineEnding}
+use Rattle.fields.specs.Cut.{carryStart, emptied, heldWith, lineEnding}
 use Rattle.fields.specs.Lines.{feedAt}
 use Rattle.lines.specs.declared.read.Line.{Line}
 use Rattle.lines.specs.declared.settle.Settling.{Settling}
@@ -98,7 +98,7 @@ lineDoneBy x end next (NotWritten why) = record { next = x; took = 0; wrote = 0;
 
 -- an input without a line feed is held
 abbrev pub holding : Session → List ℕ → Fed
-holding x input = record { next = record { core = x .core; carry = held (x .carry) input }; took = length input; wrote = 0; verdict = Taken }
+holding x input = record { next = record { core = x .core; carry = heldWith (x .carry) input }; took = length input; wrote = 0; verdict = Taken }
 
 unfoldable pub fed : Session → List ℕ → ℕ → Fed
 fed x input room = pick (eqb (feedAt input) (length input)) (holding x input) (lineDone x (feedAt input + 1) (lineTurn x input) room)

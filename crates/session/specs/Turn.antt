@@ -82,8 +82,8 @@ verdictText (Refused why) = refusalLine why
 unfoldable pub answerText : Numbers → Answer → List ℕ
 answerText s a = sentText s (a .next) (a .first) ++ (sentText s (a .next) (a .second) ++ verdictText (a .verdict))
 
-abbrev pub answered : Core → Answer → Turn
-answered c a = record { next = runningWith c (a .next); text = answerText (numbersIn c) a }
+abbrev pub stepTurn : Core → Answer → Turn
+stepTurn c a = record { next = runningWith c (a .next); text = answerText (numbersIn c) a }
 
 -- the four stages, whatever is done with a running controller's messages
 unfoldable pub turnBy : (Core → Message → Turn) → Core → List ℕ → Stage → Turn
@@ -93,7 +93,7 @@ turnBy go c line Running = hears (go c) c (readLine (groupIn c) line .message) (
 turnBy go c line Ended = quiet c
 
 abbrev pub stepping : Core → Message → Turn
-stepping c a = answered c (stepped (numbersIn c) (c .controller) a)
+stepping c a = stepTurn c (stepped (numbersIn c) (c .controller) a)
 
 abbrev pub turn : Core → List ℕ → Turn
 turn c line = turnBy stepping c line (c .stage)

@@ -11,6 +11,7 @@ use lib.ListN.{length}
 use borrow.Author.Tests.{eq-eqb, ne-eqb}
 use Rattle.units.specs.declared.refusal.Refusal.the-variants.{Range}
 use Rattle.units.specs.Pick.{pick}
+use Rattle.units.proofs.Every.{absurd-by}
 use Rattle.units.proofs.Numbers.{six}
 use Rattle.vote.specs.declared.digest.Digest.{Digest}
 use Rattle.vote.specs.declared.votes.Ballot.{Ballot}
@@ -22,7 +23,7 @@ use Rattle.vote.specs.declared.judge.Poll.{Poll}
 use Rattle.vote.specs.declared.judge.Poll.the-variants.{Nobody, Won, Refused as Denied}
 use Rattle.vote.specs.Digest.{rank, unrank}
 use Rattle.vote.specs.Vote.{total, count, missing, Wins, Decides, Answers, Names, ballotOf, allBallots, ballots, rankOf, votesFit}
-use Rattle.vote.specs.Decision.{seat, ranksOf, strengths, largest, missingOf, heldOff, rivalOf, settledAt, settled, decision, strongestAt, winning}
+use Rattle.vote.specs.Decision.{seat, ranksOf, strengths, largest, missingOf, heldOff, rivalOf, ruledAt, ruled, decision, strongestAt, winning}
 use Rattle.vote.proofs.Order.{same-dec, unrank-rank, rank-below}
 use Rattle.vote.proofs.Lexicographic.{lex-rank}
 use Rattle.vote.proofs.Counting.{all-voted, as-it-is}
@@ -83,9 +84,9 @@ module _ (v : Votes) (fit : votesFit v ≡ true) where
         let k′ : 1 ≤ count d (allBallots v) = omega (arith, same-count v fit d) in
         omega (arith, weaker (v .group .m) (v .label) (round v fit) (allBallots v) (all-legal v fit) d k′)
 
-    settled-nothing : Answers v (settled (v .group) (v .label) ranks)
-    unfolding settled settledAt pick
-    settled-nothing = rw (eq-eqb (largest (strengths ranks)) 0 none) (fit, λ d h. nobody-voted d (h (ballots v) (as-it-is _ _ (ballots v)) .voted))
+    ruled-nothing : Answers v (ruled (v .group) (v .label) ranks)
+    unfolding ruled ruledAt pick
+    ruled-nothing = rw (eq-eqb (largest (strengths ranks)) 0 none) (fit, λ d h. nobody-voted d (h (ballots v) (as-it-is _ _ (ballots v)) .voted))
 
     won-nothing : Names v (strongestAt (largest (strengths ranks)))
     unfolding strongestAt pick
@@ -135,10 +136,10 @@ module _ (v : Votes) (fit : votesFit v ≡ true) where
     abbrev Test : Bool → Type 0
     Test b = heldOff (rivalOf (v .group .m) (v .label) (strengths ranks) (rank d)) (missing (ballots v)) (count d (allBallots v) * seat + rank d) ≡ b
 
-    settled-is : settled (v .group) (v .label) ranks
+    ruled-is : ruled (v .group) (v .label) ranks
         ≡ pick (heldOff (rivalOf (v .group .m) (v .label) (strengths ranks) (rank d)) (missing (ballots v)) (count d (allBallots v) * seat + rank d)) (Decided d) Undecided
-    unfolding settled settledAt pick
-    settled-is = rw (ne-eqb (largest (strengths ranks)) 0 some, named, first, missing-is, ← top)
+    unfolding ruled ruledAt pick
+    ruled-is = rw (ne-eqb (largest (strengths ranks)) 0 some, named, first, missing-is, ← top)
 
     decided-yes : Test true → Decides v d
     unfolding ranks
@@ -156,19 +157,19 @@ module _ (v : Votes) (fit : votesFit v ≡ true) where
         omega (arith, behind e (g .voted), g .behind d (all-voted _ (allBallots v) (all-legal v fit) d k) (λ q. n (sym q))))
         (same-dec e d)
 
-    settled-something : Answers v (settled (v .group) (v .label) ranks)
+    ruled-something : Answers v (ruled (v .group) (v .label) ranks)
     unfolding pick
-    settled-something = subst⁻¹ (Answers v) settled-is (told _ refl)
+    ruled-something = subst⁻¹ (Answers v) ruled-is (told _ refl)
       where
         told : (b : Bool) → Test b → Answers v (pick b (Decided d) Undecided)
         told true h = (fit, decided-yes h)
         told false h = (fit, decided-no h)
 
-  settled-exact : Answers v (settled (v .group) (v .label) (ranksOf (v .seats)))
+  ruled-exact : Answers v (ruled (v .group) (v .label) (ranksOf (v .seats)))
   unfolding ranks
-  settled-exact =
-      subst⁻¹ (λ (l : List ℕ). Answers v (settled (v .group) (v .label) l)) ranks-are
-      (⊎-elim (λ z. settled-nothing z) (λ q. settled-something (q .0) (q .1) (q .2))
+  ruled-exact =
+      subst⁻¹ (λ (l : List ℕ). Answers v (ruled (v .group) (v .label) l)) ranks-are
+      (⊎-elim (λ z. ruled-nothing z) (λ q. ruled-something (q .0) (q .1) (q .2))
       (strongest (v .group .m) (v .label) (round v fit) (allBallots v) (all-legal v fit)))
 
   strongest-exact : Names v (strongestAt (largest (strengths (ranksOf (v .seats)))))
@@ -183,8 +184,8 @@ pub decision-exact : (v : Votes) → Answers v (decision v)
 unfolding decision pick
 decision-exact v = told (votesFit v) refl
   where
-    told : (b : Bool) → votesFit v ≡ b → Answers v (pick b (settled (v .group) (v .label) (ranksOf (v .seats))) (Refused Range))
-    told true fit = settled-exact v fit
+    told : (b : Bool) → votesFit v ≡ b → Answers v (pick b (ruled (v .group) (v .label) (ranksOf (v .seats))) (Refused Range))
+    told true fit = ruled-exact v fit
     told false e = (refl, e)
 
 pub winning-exact : (v : Votes) → Names v (winning v)
@@ -198,7 +199,7 @@ winning-exact v = told (votesFit v) refl
 -- ---- two answers that keep the promise are equal
 
 never : {A : Type 0} (b : Bool) → b ≡ true → b ≡ false → A
-never b p q = let z : _≡_ {A = ℕ} 0 1 = cc in absurd (omega arith)
+never b p q = absurd-by (cc)
 
 module _ (v : Votes) where
   winners-one : votesFit v ≡ true → (d e : Digest) → Wins (ballots v) d → Wins (ballots v) e → d ≡ e

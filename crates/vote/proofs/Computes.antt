@@ -5,7 +5,7 @@ use Rattle.units.specs.Pick.{pick}
 use Rattle.units.specs.Settings.{groupFits}
 use Rattle.vote.specs.Digest.{legal, same, rank, unrank, full, least}
 use Rattle.vote.specs.Vote.{seatFits, seatsFit, votesFit, total}
-use Rattle.vote.specs.Decision.{tallyOf, strengthOf, largest, otherThan, outsider, missingOf, heldOff, rivalOf, settledAt, settled, decision, strongestAt, winning}
+use Rattle.vote.specs.Decision.{tallyOf, strengthOf, largest, otherThan, outsider, missingOf, heldOff, rivalOf, ruledAt, ruled, decision, strongestAt, winning}
 
 -- digests and votes in range
 unfoldable pub digest-computes : Unit {0}
@@ -14,5 +14,5 @@ digest-computes = tt
 
 -- the decision and the winner
 unfoldable pub judge-computes : Unit {0}
-unfolding tallyOf strengthOf largest otherThan outsider missingOf heldOff rivalOf settledAt settled decision strongestAt winning
+unfolding tallyOf strengthOf largest otherThan outsider missingOf heldOff rivalOf ruledAt ruled decision strongestAt winning
 judge-computes = tt

@@ -8,7 +8,7 @@ use lib.Dec.{ltb}
 use lib.ListN.{length, getD, take, drop, take-append-drop, length-drop, length-map}
 use borrow.Author.Tests.{le-ltb}
 use Rattle.units.specs.declared.labels.RoundLabel.{RoundLabel}
-use Rattle.units.proofs.Every.{and-right}
+use Rattle.units.proofs.Every.{absurd-by, and-right}
 use Rattle.vote.specs.declared.digest.Digest.{Digest}
 use Rattle.vote.specs.declared.votes.Ballot.{Ballot}
 use Rattle.vote.specs.declared.votes.Ballot.the-variants.{Missing, Cast}
@@ -56,7 +56,7 @@ seat-legal inside m label (Cast d) h = and-right inside (legal m label d) h
 seat-beyond : (m : ℕ) (label : RoundLabel) (b : Ballot) → seatFits false m label b ≡ true → AtBallot (λ d. ⊥) b
 unfolding seatFits
 seat-beyond m label Missing h = tt
-seat-beyond m label (Cast d) h = let z : _≡_ {A = ℕ} 0 1 = cc in omega arith
+seat-beyond m label (Cast d) h = absurd-by (cc)
 
 -- ---- votes in range
 

@@ -6,7 +6,7 @@ pub mod Counting
 pub mod Exact
 mod Turns
 pub mod Facts
-mod Settling
+mod Ruling
 pub mod Strength
 pub mod Rule
 pub mod Answer

@@ -12,7 +12,7 @@ use lib.Pow.{pow-mono}
 use borrow.Author.Tests.{eqb-true, eq-eqb}
 use Rattle.units.specs.declared.labels.RoundLabel.{RoundLabel}
 use Rattle.units.specs.Mask.{maskEnd}
-use Rattle.units.proofs.Every.{and-left, and-right}
+use Rattle.units.proofs.Every.{absurd-by, and-left, and-right}
 use Rattle.units.proofs.Masks.{mask-end-is}
 use Rattle.vote.specs.declared.digest.Digest.{Digest}
 use Rattle.vote.specs.Digest.{legal, same, rank, unrank, full, least}
@@ -37,8 +37,7 @@ same-false : (d e : Digest) → same d e ≡ false → d ≡ e → ⊥
 same-false d e h p =
     let q : same e e ≡ false = rw p at h in
     let r : same e e ≡ true = same-refl e in
-    let z : _≡_ {A = ℕ} 0 1 = cc in
-    omega arith
+    absurd-by (cc)
 
 pub same-dec : (d e : Digest) → (d ≡ e) ⊎ (d ≡ e → ⊥)
 same-dec d e = told (same d e) refl

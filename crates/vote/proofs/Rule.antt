@@ -11,6 +11,7 @@ use lib.Dec.{eqb, ltb}
 use borrow.Author.Tests.{eq-eqb, ne-eqb, eqb-true, eqb-false, ltb-true, ltb-false}
 use Rattle.units.specs.declared.labels.RoundLabel.{RoundLabel}
 use Rattle.units.specs.Pick.{pick}
+use Rattle.units.proofs.Every.{absurd-by}
 use Rattle.vote.specs.declared.digest.Digest.{Digest}
 use Rattle.vote.specs.declared.votes.Ballot.{Ballot}
 use Rattle.vote.specs.Digest.{legal, rank, full, least}
@@ -34,7 +35,7 @@ unfolding heldOff pick
 held-no r k best = told (eqb r 0) refl
   where
     told : (b : Bool) → eqb r 0 ≡ b → pick b true (ltb (k * seat) (best - r)) ≡ false → (1 ≤ r) × (best - r ≤ k * seat)
-    told true e h = let z : _≡_ {A = ℕ} 0 1 = cc in absurd (omega arith)
+    told true e h = absurd-by (cc)
     told false e h = let n = eqb-false r 0 e in (omega arith, ltb-false _ _ h)
 
 module _ (m : ℕ) (label : RoundLabel) (w : Round m label) (s : List Ballot) (ok : All (λ d. legal m label d ≡ true) s) where

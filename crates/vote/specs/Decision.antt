@@ -67,18 +67,18 @@ unfoldable pub rivalOf : ℕ → RoundLabel → List ℕ → ℕ → ℕ
 rivalOf m label l x = pick (eqb (largest (othersThan x l)) 0) (outsider m label x) (largest (othersThan x l))
 
 -- the strongest vote, where its rival is held off
-unfoldable pub settledAt : Group → RoundLabel → List ℕ → ℕ → Decision
-settledAt group label l best =
+unfoldable pub ruledAt : Group → RoundLabel → List ℕ → ℕ → Decision
+ruledAt group label l best =
     pick (eqb best 0) Undecided
     (pick (heldOff (rivalOf (group .m) label (strengths l) (best % seat)) (missingOf (group .g) l) best)
     (Decided (unrank (best % seat)))
     Undecided)
 
-unfoldable pub settled : Group → RoundLabel → List ℕ → Decision
-settled group label l = settledAt group label l (largest (strengths l))
+unfoldable pub ruled : Group → RoundLabel → List ℕ → Decision
+ruled group label l = ruledAt group label l (largest (strengths l))
 
 unfoldable pub decision : Votes → Decision
-decision v = pick (votesFit v) (settled (v .group) (v .label) (ranksOf (v .seats))) (Refused Range)
+decision v = pick (votesFit v) (ruled (v .group) (v .label) (ranksOf (v .seats))) (Refused Range)
 
 unfoldable pub strongestAt : ℕ → Poll
 strongestAt best = pick (eqb best 0) Nobody (Won (unrank (best % seat)))

@@ -1,7 +1,7 @@
 // The winner of a set of votes, and what the set is decided for.
 ghost use Prim.Native.Nat.{_≤_};
 ghost use mathlib.Core.Path.{_≡_};
-ghost use Rattle.vote.specs.Decision.{decision, heldOff, missingOf, outsider, rivalOf, settled, winning};
+ghost use Rattle.vote.specs.Decision.{decision, heldOff, missingOf, outsider, rivalOf, ruled, winning};
 use crate::digest::Digest;
 use crate::ranks::SEAT;
 use crate::ranks::largest_of;
@@ -76,9 +76,9 @@ fn held_off(rival: u64, k: u64, best: u64) -> bool
 }
 
 // Only the strongest vote can be decided: it is where no rival catches up with all the missing votes.
-fn settle(group: Group, label: RoundLabel, ranks: [u64; 7]) -> Decision
+fn rule(group: Group, label: RoundLabel, ranks: [u64; 7]) -> Decision
     requires { ⌜ group .g ≤ 7 ⌝ }
-    ensures { λ r. ⌜ r ≡ settled group label ranks ⌝ }
+    ensures { λ r. ⌜ r ≡ ruled group label ranks ⌝ }
 {
     let found = strengths_of(ranks);
     let best = largest_of(found);
@@ -104,7 +104,7 @@ pub fn decide(v: Votes) -> Decision
         let label = v.label;
         let seats = v.seats;
         let ranks = ranks_of(seats);
-        settle(group, label, ranks)
+        rule(group, label, ranks)
     } else {
         Decision::Refused(Refusal::Range)
     }

@@ -7,14 +7,14 @@ use borrow.Author.Needs.{needs}
 use Rattle.filter.proofs.run.move_by.Statement.{statement}
 use Rattle.filter.proofs.run.move_by.Tie as tie
 
-hold-requires : tie.Need-hold-requires
-hold-requires c κs = search needs
+limit-requires : tie.Need-limit-requires
+limit-requires c κs = search needs
 
 returns : tie.Need-returns
 unfolding moved
 returns c =
     let a = c .before .args in
-    c .hold .ensures ∙ ap (λ (t : Float). limited t (add binary64 (a .x) (mul binary64 (a .k) (sub binary64 (a .z) (a .x))))) x-top
+    c .limit .ensures ∙ ap (λ (t : Float). limited t (add binary64 (a .x) (mul binary64 (a .k) (sub binary64 (a .z) (a .x))))) x-top
 
 pub move-by-spec : {M : Type 1} → statement M
-move-by-spec = tie.close (tie.spec hold-requires returns)
+move-by-spec = tie.close (tie.spec limit-requires returns)

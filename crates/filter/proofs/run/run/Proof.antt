@@ -37,8 +37,8 @@ move-by-requires c κs = search needs
 shrink-requires : tie.Need-shrink-requires
 shrink-requires c κs = search needs
 
-hold-requires : tie.Need-hold-requires
-hold-requires c κs = search needs
+limit-requires : tie.Need-limit-requires
+limit-requires c κs = search needs
 
 returns : tie.Need-returns
 returns c =
@@ -51,7 +51,7 @@ returns c =
 returns-2 : tie.Need-returns-2
 returns-2 c =
     let a = c .before .before .before .args in
-    predicted (a .e) (a .n) (a .q) (a .r) (a .raw) (a .factor) _ (c .hold .result) _ (c .before .before .grow .ensures) _ variance-top (c .hold .ensures)
+    predicted (a .e) (a .n) (a .q) (a .r) (a .raw) (a .factor) _ (c .limit .result) _ (c .before .before .grow .ensures) _ variance-top (c .limit .ensures)
     ∙ ap (λ (b : Bool). outcome (a .e) (a .n) (a .q) (a .r) b (a .raw) (a .factor)) (sym (c .before .if1 .left))
 
 pub run-spec : {M : Type 1} → statement M
@@ -63,6 +63,6 @@ run-spec =
     gain-of-requires
     move-by-requires
     shrink-requires
-    hold-requires
+    limit-requires
     returns
     returns-2)

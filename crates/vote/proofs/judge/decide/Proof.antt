@@ -1,7 +1,7 @@
 -- `decide` meets its contract. Assumes nothing.
 use mathlib.Core.Path.{refl, sym, ap, _∙_}
 use Rattle.units.proofs.Picked.{by-yes, by-no}
-use Rattle.vote.specs.Decision.{decision, settled}
+use Rattle.vote.specs.Decision.{decision, ruled}
 use Rattle.vote.proofs.Facts.{groups}
 use borrow.Author.Needs.{needs}
 use Rattle.vote.proofs.judge.decide.Statement.{statement}
@@ -13,12 +13,12 @@ in-range-requires c κs = search needs
 ranks-of-requires : tie.Need-ranks-of-requires
 ranks-of-requires c κs = search needs
 
-settle-requires : tie.Need-settle-requires
-settle-requires c κs = groups (c .before .before .before .before .before .before .args .v) (sym (c .before .before .before .before .before .in-range .ensures) ∙ c .before .before .before .before .if1 .taken)
+rule-requires : tie.Need-rule-requires
+rule-requires c κs = groups (c .before .before .before .before .before .before .args .v) (sym (c .before .before .before .before .before .in-range .ensures) ∙ c .before .before .before .before .if1 .taken)
 
 returns : tie.Need-returns
 unfolding decision
-returns c = by-yes _ (sym (c .before .before .before .before .before .before .in-range .ensures) ∙ c .before .before .before .before .before .if1 .taken) (c .settle .ensures ∙ ap (settled _ _) (c .before .ranks-of .ensures))
+returns c = by-yes _ (sym (c .before .before .before .before .before .before .in-range .ensures) ∙ c .before .before .before .before .before .if1 .taken) (c .rule .ensures ∙ ap (ruled _ _) (c .before .ranks-of .ensures))
 
 returns-2 : tie.Need-returns-2
 unfolding decision
@@ -26,4 +26,4 @@ returns-2 c = by-no _ (sym (c .before .in-range .ensures) ∙ c .if1 .left) refl
 
 pub decide-spec : {M : Type 1} → statement M
 decide-spec =
-    tie.close (tie.spec in-range-requires ranks-of-requires settle-requires returns returns-2)
+    tie.close (tie.spec in-range-requires ranks-of-requires rule-requires returns returns-2)

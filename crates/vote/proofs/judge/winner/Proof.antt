@@ -1,7 +1,7 @@
 -- `winner` meets its contract. Assumes nothing.
 use mathlib.Core.Path.{refl, sym, ap, _∙_}
 use Rattle.units.proofs.Picked.{by-yes, by-no}
-use Rattle.vote.proofs.Settling.{nobody-won, somebody-won}
+use Rattle.vote.proofs.Ruling.{nobody-won, somebody-won}
 use Rattle.vote.specs.Decision.{ranksOf, strengths, winning}
 use borrow.Author.Needs.{needs}
 use Rattle.vote.proofs.judge.winner.Statement.{statement}

@@ -19,7 +19,7 @@ pub(crate) fn at_most(top: f64, v: f64) -> f64
 }
 
 // v held within +0 and the limit.
-pub(crate) fn hold(top: f64, v: f64) -> f64
+pub(crate) fn limit(top: f64, v: f64) -> f64
     ensures { λ r. ⌜ r ≡ limited top v ⌝ }
 {
     if 0.0 < v && v <= top {

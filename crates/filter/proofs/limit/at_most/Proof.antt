@@ -1,7 +1,7 @@
 -- `at_most` meets its contract: each way is a case of `atMost`. Assumes nothing.
 use Rattle.filter.proofs.Cases.{more, no-more}
-use Rattle.filter.proofs.hold.at_most.Statement.{statement}
-use Rattle.filter.proofs.hold.at_most.Tie as tie
+use Rattle.filter.proofs.limit.at_most.Statement.{statement}
+use Rattle.filter.proofs.limit.at_most.Tie as tie
 
 returns : tie.Need-returns
 returns c = more (c .before .args .top) (c .before .args .v) (c .if1 .taken)

@@ -1,12 +1,12 @@
--- `hold` meets its contract: each way is a case of `limited`. Assumes nothing.
+-- `limit` meets its contract: each way is a case of `limited`. Assumes nothing.
 use mathlib.Core.Path.{_≡_}
 use mathlib.Core.Bool.{false, _&&_}
 use mathlib.Core.Logic.{⊎-elim}
 use lib.Ieee.{lt, le}
 use Rattle.floats.specs.Bits.{nought}
 use Rattle.filter.proofs.Cases.{inside, above, neither, and-false-l, and-false-r}
-use Rattle.filter.proofs.hold.hold.Statement.{statement}
-use Rattle.filter.proofs.hold.hold.Tie as tie
+use Rattle.filter.proofs.limit.limit.Statement.{statement}
+use Rattle.filter.proofs.limit.limit.Tie as tie
 
 returns : tie.Need-returns
 returns c =
@@ -25,5 +25,5 @@ returns-2 c = above (c .before .before .args .top) (c .before .before .args .v) 
 returns-3 : tie.Need-returns-3
 returns-3 c = neither (c .before .before .args .top) (c .before .before .args .v) (not-within (c .before)) (c .if3 .left)
 
-pub hold-spec : {M : Type 1} → statement M
-hold-spec = tie.close (tie.spec returns returns-2 returns-3)
+pub limit-spec : {M : Type 1} → statement M
+limit-spec = tie.close (tie.spec returns returns-2 returns-3)

@@ -4,8 +4,8 @@ use mathlib.Core.Path.{subst⁻¹}
 use native.Mathlib.Nat.{lt-of-le-of-lt, le-of-lt, mul-le-mul-left, mul-lt-mul-of-pos-right}
 use lib.Pow.{pow-add, pow-pos}
 use borrow.Author.Needs.{needs}
-use Rattle.filter.proofs.hold.product.Statement.{statement}
-use Rattle.filter.proofs.hold.product.Tie as tie
+use Rattle.filter.proofs.limit.product.Statement.{statement}
+use Rattle.filter.proofs.limit.product.Tie as tie
 
 below : (k : ℕ) {a b : ℕ} → a < 2 ^ k → b < 2 ^ k → a * b < 2 ^ (k + k)
 below k {a} {b} ha hb =
