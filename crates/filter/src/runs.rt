@@ -1,8 +1,8 @@
 // All sixteen places of a state after a round.
 ghost use mathlib.Core.Path.{_≡_};
 ghost use Rattle.filter.specs.Runs.{place, runsAfter};
-use crate::run::run;
 use crate::run::estimate_after;
+use crate::run::run;
 use units::Estimate;
 use units::Numbers;
 use units::limits::RUNS;

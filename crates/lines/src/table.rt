@@ -18,6 +18,8 @@ use units::limits::FIRST_TOP;
 use units::limits::LABEL_TOP;
 use units::limits::NOISE_LOW;
 use units::limits::NOISE_TOP;
+use units::limits::NUMBER_LOW;
+use units::limits::NUMBER_TOP;
 use units::limits::RAW_TOP;
 use units::limits::ROUND_LOW;
 use units::limits::RUNS;
@@ -231,7 +233,7 @@ impl Quantity {
             Quantity::X => made(Spelling::Hex16, 0, X_BITS),
             Quantity::Variance => made(Spelling::Hex16, 0, VARIANCE_BITS),
             Quantity::Target => made(Spelling::Hex16, 0, TARGET_BITS),
-            Quantity::Number => made(Spelling::Decimal, 1, 16),
+            Quantity::Number => made(Spelling::Decimal, NUMBER_LOW as u64, NUMBER_TOP as u64),
             Quantity::Controllers => made(Spelling::Decimal, 1, CONTROLLERS as u64),
             Quantity::Runs => made(Spelling::Decimal, 1, RUNS as u64),
             Quantity::Noise => made(Spelling::Decimal, NOISE_LOW as u64, NOISE_TOP as u64),

@@ -30,7 +30,7 @@ bounds-spec = tie.close (tie.spec (search needs) (search needs) (search needs) (
     (search needs) (search needs) (search needs) (search needs) (search needs) (search needs) (search needs) (search needs) (search needs) (search needs) (search needs) (search needs)
     (search needs) (search needs) (search needs) (search needs) (search needs) (search needs) (search needs) (search needs) (search needs) (search needs) (search needs) (search needs)
     (search needs) (search needs) (search needs) (search needs) (search needs) (search needs) (search needs) (search needs) (search needs) (search needs) (search needs) (search needs)
-    (search needs) (search needs) (search needs) (search needs) (search needs) (search needs) (search needs) (search needs) returns returns-2
+    (search needs) (search needs) (search needs) (search needs) (search needs) (search needs) (search needs) (search needs) (search needs) (search needs) returns returns-2
     (λ c. limit-at _ _ (c .before .enum-told3 .given .1) (c .made3 .ensures)) (λ c. limit-at _ _ (c .before .enum-told4 .given .1) (c .made4 .ensures)) returns-5 returns-6
     (λ c. limit-at _ _ (c .before .enum-told7 .given .1) (c .made7 .ensures)) (λ c. limit-at _ _ (c .before .enum-told8 .given .1) (c .made8 .ensures))
     (λ c. limit-at _ _ (c .before .enum-told9 .given .1) (c .made9 .ensures)) (λ c. limit-at _ _ (c .before .enum-told10 .given .1) (c .made10 .ensures))
