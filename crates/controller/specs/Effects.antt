@@ -8,7 +8,7 @@ use Rattle.units.specs.declared.labels.RoundLabel.{RoundLabel}
 use Rattle.units.specs.declared.labels.StateLabel.{StateLabel}
 use Rattle.units.specs.declared.settings.Numbers.{Numbers}
 use Rattle.units.specs.Labels.{issuedState}
-use Rattle.units.specs.Limits.{runsTop, controllersTop}
+use Rattle.units.specs.Limits.{controllersTop}
 use Rattle.vote.specs.declared.digest.Digest.{Digest}
 use Rattle.vote.specs.Vote.{nobody, seated}
 use Rattle.filter.specs.Compute.{newState}

@@ -11,7 +11,6 @@ use Rattle.floats.specs.Bits.{ofWhole}
 use Rattle.floats.specs.Ranges.{stateFits}
 use Rattle.vote.specs.declared.votes.Ballot.{Ballot}
 use Rattle.vote.specs.declared.votes.Ballot.the-variants.{Missing, Cast}
-use Rattle.vote.specs.declared.votes.Seat.{Seat}
 use Rattle.vote.specs.Digest.{legal}
 use Rattle.vote.specs.Vote.{seatsFit, nobody}
 use Rattle.message.specs.Readings.{readingsFit}

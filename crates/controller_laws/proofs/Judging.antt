@@ -9,11 +9,9 @@ use lib.Dec.{ltb}
 use lib.ListN.{length, getD}
 use lib.Seq.{getD-set-same}
 use borrow.Author.Tests.{ltb-true}
-use Rattle.units.specs.declared.labels.RoundLabel.{RoundLabel}
 use Rattle.units.specs.declared.refusal.Refusal.the-variants.{Lacking}
 use Rattle.units.specs.declared.settings.Numbers.{Numbers}
 use Rattle.units.specs.Labels.{before, roundFits}
-use Rattle.units.specs.Pick.{pick}
 use Rattle.units.proofs.Every.{absurd-by, and-both, and-three}
 use Rattle.units.proofs.Picked.{by-yes}
 use Rattle.vote.specs.declared.digest.Digest.{Digest}
@@ -23,10 +21,9 @@ use Rattle.vote.specs.declared.votes.Ballot.the-variants.{Cast}
 use Rattle.vote.specs.declared.votes.Seat.{Seat}
 use Rattle.vote.specs.Digest.{legal}
 use Rattle.vote.specs.Vote.{votesFit, Decides, Answers, nobody, seated}
-use Rattle.vote.specs.Decision.{decision}
 use Rattle.vote.proofs.Answer.{decision-exact, decided-one}
 use Rattle.message.specs.declared.head.Head.{Head}
-use Rattle.message.specs.declared.head.Head.the-variants.{Vote, Setpoints}
+use Rattle.message.specs.declared.head.Head.the-variants.{Vote}
 use Rattle.message.specs.declared.value.Message.{Message}
 use Rattle.message.specs.Head.{headFits}
 use Rattle.plan.specs.declared.brief.Phase.{Phase}
@@ -47,7 +44,7 @@ use Rattle.controller_laws.specs.Endings.{endedWith}
 use Rattle.controller_laws.specs.Judging.{IssuedFor, Judged}
 use Rattle.controller_laws.specs.Phases.{Busy, Free}
 use Rattle.controller_laws.specs.Sendings.{IsSent}
-use Rattle.controller_laws.specs.Ways.{Votes, Leads}
+use Rattle.controller_laws.specs.Ways.{Votes}
 use Rattle.controller_laws.specs.Ways.Leads.{open-still, lacking, issues}
 use Rattle.controller_laws.specs.Ways.Goes.{led}
 use Rattle.controller_laws.proofs.Fits.{vote-fits, voting-own, inputs}

@@ -1,21 +1,18 @@
 -- THE WAYS EXCLUDE EACH OTHER: a message leads to one plan, and a step has one answer. Assumes nothing.
-use Prim.Native.Nat.{ℕ, _≤_, _<_}
+use Prim.Native.Nat.{ℕ, _<_}
 use native.Mathlib.Nat.{le-refl, le-of-lt}
 use native.Mathlib.Omega.{arith}
 use mathlib.Core.Path.{_≡_, refl, sym, ap, _∙_}
-use mathlib.Core.Bool.{Bool, true, false, not, true≢false}
-use lib.Bits.{bitAnd}
-use lib.Dec.{eqb, ltb}
+use mathlib.Core.Bool.{Bool, true, false, not}
+use lib.Dec.{eqb}
 use lib.ListN.{getD}
 use borrow.Author.Tests.{lt-ltb, le-ltb, eq-eqb, ne-eqb}
 use Rattle.units.specs.declared.labels.RoundLabel.{RoundLabel}
 use Rattle.units.specs.declared.labels.StateLabel.{StateLabel}
 use Rattle.units.specs.declared.refusal.Refusal.{Refusal}
-use Rattle.units.specs.declared.refusal.Refusal.the-variants.{Own, Late, Closed, Other, Clash, Lacking, Behind}
+use Rattle.units.specs.declared.refusal.Refusal.the-variants.{Own, Late, Closed, Other, Clash}
 use Rattle.units.specs.declared.refusal.Verdict.the-variants.{Taken}
 use Rattle.units.specs.declared.settings.Numbers.{Numbers}
-use Rattle.units.specs.Labels.{before, justBefore}
-use Rattle.units.specs.Mask.{inMask}
 use Rattle.units.specs.Pick.{pick}
 use Rattle.units.proofs.Picked.{by-yes, by-no, along}
 use Rattle.floats.specs.Ranges.{sameState}
@@ -27,25 +24,25 @@ use Rattle.vote.specs.declared.votes.Ballot.the-variants.{Missing, Cast}
 use Rattle.vote.specs.Digest.{same}
 use Rattle.vote.proofs.Order.{same-true, same-refl}
 use Rattle.message.specs.declared.head.Head.{Head}
-use Rattle.message.specs.declared.head.Head.the-variants.{Reading, Query, Reply, Advert, Update, Vote, Setpoints, Due, CollectingEnds, VotingEnds, Floor}
+use Rattle.message.specs.declared.head.Head.the-variants.{Vote}
 use Rattle.message.specs.declared.value.Message.{Message}
 use Rattle.plan.specs.declared.brief.Brief.{Brief}
 use Rattle.plan.specs.declared.brief.Phase.{Phase}
 use Rattle.plan.specs.declared.brief.Phase.the-variants.{Idle, Collecting, Pending, Voting}
-use Rattle.plan.specs.declared.planned.Effect.the-variants.{Keep, Go, Add, Adopt, Count, Issue}
+use Rattle.plan.specs.declared.planned.Effect.the-variants.{Keep, Adopt, Count}
 use Rattle.plan.specs.declared.planned.Plan.{Plan}
 use Rattle.plan.specs.declared.planned.Sent.{Sent}
 use Rattle.plan.specs.declared.planned.Sent.the-variants.{Nothing}
-use Rattle.plan.specs.Plan.{refuse, does, sends, afterwards}
+use Rattle.plan.specs.Plan.{refuse, does}
 use Rattle.plan.specs.Readings
-use Rattle.plan.specs.Readings.{sameRound, planReading, answered, inQuery, planQuery, inReply, planReply}
-use Rattle.plan.specs.States.{planAdvert, overtaken, adopted, inUpdate, planUpdate, planSetpoints}
-use Rattle.plan.specs.Timers.{missingRuns, asking, inDue, planDue, inEnds, planEnds, inVotingEnds, planVotingEnds}
-use Rattle.plan.specs.Votes.{ownDigest, endOf, inFloor, planFloor, inSeat, inDigest, planDigest, possessed, chosenPlan, judged}
+use Rattle.plan.specs.Readings.{sameRound, planReading, answered, inQuery, inReply}
+use Rattle.plan.specs.States.{overtaken, adopted, inUpdate}
+use Rattle.plan.specs.Timers.{inDue, inEnds, inVotingEnds}
+use Rattle.plan.specs.Votes.{inFloor, planFloor, inSeat, inDigest, planDigest, chosenPlan, judged}
 use Rattle.controller.specs.declared.state.Controller.{Controller}
 use Rattle.controller.specs.declared.step.Answer.{Answer}
 use Rattle.controller.specs.State.{briefOf, ballotAt}
-use Rattle.controller.specs.Step.{decisionWith, judgedIn, judgedPlan, votePlan, clashing, planned, inputsFit, carriedOut, stepped}
+use Rattle.controller.specs.Step.{decisionWith, judgedIn, judgedPlan, votePlan, clashing, planned, carriedOut, stepped}
 use Rattle.controller_laws.specs.Phases.{Busy, Early, Open, Fixed, Free}
 use Rattle.controller_laws.specs.Reasons.{Mine, TooLate, OtherLabel, Shut, Clashed, Refuses, Rests}
 use Rattle.controller_laws.specs.Reasons.Mine.{my-query, my-reply, my-advert, my-update, my-vote, my-setpoints}

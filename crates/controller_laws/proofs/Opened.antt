@@ -1,9 +1,9 @@
 -- The plans' definitions by what they are about, opened together: a proof that goes by kinds or phases says `unfolding kinds-open` or `phases-open`. Assumes nothing.
 use Rattle.plan.specs.Readings
-use Rattle.plan.specs.Readings.{planReading, answered, inQuery, planQuery, inReply, planReply}
+use Rattle.plan.specs.Readings.{answered, planQuery, inReply, planReply}
 use Rattle.plan.specs.States.{planAdvert, overtaken, adopted, inUpdate, planUpdate, planSetpoints}
 use Rattle.plan.specs.Timers.{asking, inDue, planDue, inEnds, planEnds, inVotingEnds, planVotingEnds}
-use Rattle.plan.specs.Votes.{planFloor, inDigest, planDigest, chosenPlan}
+use Rattle.plan.specs.Votes.{planFloor, planDigest}
 use Rattle.controller.specs.Step.{judgedPlan, planned}
 
 -- what each kind leads to, up to its phase

@@ -1,5 +1,4 @@
 -- What a refusal leaves: all but 12, 13 and 14 leave the controller as it was and send nothing; those three end the round. Assumes nothing.
-use Prim.Native.Nat.{ℕ}
 use mathlib.Core.Path.{_≡_, refl, sym, ap, subst, _∙_}
 use mathlib.Core.Bool.{true, false, true≢false}
 use mathlib.Core.Logic.{_⊎_, inl, inr}

@@ -14,7 +14,7 @@ use Rattle.units.specs.Limits.{labelTop}
 use Rattle.units.specs.Mask.{maskEnd}
 use Rattle.units.specs.Settings.{groupFits, numbersFit}
 use Rattle.units.proofs.Masks.{some-mask}
-use Rattle.units.proofs.Every.{absurd-by, and-both, no-way}
+use Rattle.units.proofs.Every.{absurd-by, and-both}
 use Rattle.units.proofs.InRange.{group-fits}
 use Rattle.floats.specs.Ranges.{stateFits, targetsFit}
 use Rattle.vote.specs.declared.digest.Digest.{Digest}

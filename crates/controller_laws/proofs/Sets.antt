@@ -3,10 +3,10 @@ use Prim.Native.Nat.{ℕ, _<_}
 use native.Mathlib.Omega.{arith}
 use native.Mathlib.Decide.{ℕ-discrete}
 use mathlib.Core.Path.{_≡_, refl, sym, ap, subst, _∙_}
-use mathlib.Core.Bool.{Bool, true, false, not, true≢false, _&&_}
+use mathlib.Core.Bool.{Bool, true, false, not, _&&_}
 use mathlib.Core.List.{List}
 use mathlib.Core.Logic.{by-cases}
-use lib.Bits.{bitAnd, bitOr}
+use lib.Bits.{bitAnd}
 use lib.Dec.{eqb, leb, ltb}
 use lib.ListN.{length, getD, set, replicate, length-set}
 use lib.Seq.{ext-getD, getD-set-same, getD-set-other}
@@ -24,14 +24,12 @@ use Rattle.message.specs.declared.head.Head.the-variants.{Reading, Reply}
 use Rattle.message.specs.declared.value.Message.{Message}
 use Rattle.message.specs.Head.{headFits}
 use Rattle.plan.specs.declared.brief.Phase.the-variants.{Collecting}
-use Rattle.plan.specs.declared.planned.Effect.the-variants.{Keep, Add, Merge}
 use Rattle.plan.specs.declared.planned.Plan.{Plan}
-use Rattle.plan.specs.Plan.{does, refuse}
 use Rattle.controller.specs.declared.state.Controller.{Controller}
 use Rattle.controller.specs.declared.step.Answer.{Answer}
 use Rattle.controller.specs.Effects.{heldBy, carriedBy, applied}
 use Rattle.controller.specs.Merge.{Set, runBit, agreePlace, agreeAt, agrees, mergedAt, merged, single, agreed, together, join}
-use Rattle.controller.specs.Step.{inputsFit, carriedOut, stepped}
+use Rattle.controller.specs.Step.{inputsFit, stepped}
 use Rattle.controller_laws.specs.Reasons.Clashed.{by-reading, by-reply}
 use Rattle.controller_laws.specs.Reasons.Refuses.{is-clash}
 use Rattle.controller_laws.specs.Reasons.Rests.{known}

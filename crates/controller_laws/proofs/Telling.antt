@@ -1,7 +1,7 @@
 -- "it goes in, and comes back with what to send": what the step tells of is what is sent, as whole messages, none, one or two. Assumes nothing.
-use Prim.Native.Nat.{ℕ, _+_, _≤_}
+use Prim.Native.Nat.{_+_, _≤_}
 use native.Mathlib.Omega.{arith}
-use mathlib.Core.Path.{_≡_, refl, sym, ap, subst, _∙_}
+use mathlib.Core.Path.{_≡_, refl, sym, ap, _∙_}
 use mathlib.Core.Logic.{inl, inr, ⊎-elim}
 use Rattle.units.specs.declared.settings.Numbers.{Numbers}
 use Rattle.message.specs.declared.head.Head.{Head}

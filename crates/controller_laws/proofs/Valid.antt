@@ -1,20 +1,15 @@
 -- What it says that settings, a digest, seats, a phase and a whole controller are in range, as facts and back. Assumes nothing.
 use Prim.Native.Nat.{ℕ, _≤_, _<_}
-use native.Mathlib.Omega.{arith}
-use native.Mathlib.Decide.{ℕ-discrete}
-use mathlib.Core.Path.{_≡_, refl, sym, ap, subst, _∙_}
+use mathlib.Core.Path.{_≡_, refl, ap}
 use mathlib.Core.Bool.{Bool, true, false, not, _&&_}
-use mathlib.Core.List.{List}
-use mathlib.Core.Logic.{by-cases}
-use lib.Dec.{eqb, leb, ltb}
-use lib.ListN.{length, getD, replicate, length-set, getD-replicate}
-use lib.Seq.{getD-set-same, getD-set-other}
-use borrow.Author.Tests.{eqb-true, eq-eqb, leb-true, le-leb, ltb-true, lt-ltb, not-true}
+use lib.Dec.{leb, ltb}
+use lib.ListN.{getD, replicate, getD-replicate}
+use borrow.Author.Tests.{leb-true, le-leb, ltb-true, lt-ltb, not-true}
 use Rattle.units.specs.declared.labels.RoundLabel.{RoundLabel}
 use Rattle.units.specs.declared.settings.Group.{Group}
 use Rattle.units.specs.declared.settings.Numbers.{Numbers}
 use Rattle.units.specs.Labels.{before, floorFits, stateLabelFits}
-use Rattle.units.specs.Limits.{controllersTop, runsTop, labelTop, noiseTop, firstTop}
+use Rattle.units.specs.Limits.{controllersTop, runsTop, labelTop, firstTop}
 use Rattle.units.specs.Mask.{maskEnd, maskFits}
 use Rattle.units.specs.Settings.{numbersFit}
 use Rattle.units.proofs.Every.{and-left, and-right, and-both}
@@ -22,7 +17,6 @@ use Rattle.units.proofs.InRange.{numbers-range}
 use Rattle.floats.specs.Ranges.{stateFits}
 use Rattle.vote.specs.declared.digest.Digest.{Digest}
 use Rattle.vote.specs.declared.votes.Ballot.{Ballot}
-use Rattle.vote.specs.declared.votes.Ballot.the-variants.{Cast}
 use Rattle.vote.specs.declared.votes.Seat.{Seat}
 use Rattle.vote.specs.Digest.{legal}
 use Rattle.vote.specs.Vote.{nobody, seatsFit}

@@ -34,15 +34,15 @@ use Rattle.plan.specs.declared.planned.Plan.{Plan}
 use Rattle.plan.specs.declared.planned.Sent.{Sent}
 use Rattle.plan.specs.Plan.{refuse, does, sends}
 use Rattle.plan.specs.Readings
-use Rattle.plan.specs.Readings.{sameRound, planReading, answered, inQuery, planQuery, inReply, planReply}
-use Rattle.plan.specs.States.{planAdvert, overtaken, adopted, inUpdate, planUpdate, planSetpoints}
-use Rattle.plan.specs.Timers.{missingRuns, asking, inDue, planDue, inEnds, planEnds, inVotingEnds, planVotingEnds}
-use Rattle.plan.specs.Votes.{inFloor, planFloor, inSeat, inDigest, planDigest, possessed, chosenPlan, judged}
+use Rattle.plan.specs.Readings.{sameRound, planReading, answered, inQuery, inReply}
+use Rattle.plan.specs.States.{overtaken, adopted, inUpdate}
+use Rattle.plan.specs.Timers.{missingRuns, asking, inDue, inEnds, inVotingEnds}
+use Rattle.plan.specs.Votes.{inFloor, inSeat, inDigest, possessed, chosenPlan, judged}
 use Rattle.controller.specs.declared.state.Controller.{Controller}
 use Rattle.controller.specs.State.{briefOf, ballotAt}
 use Rattle.controller.specs.Step.{decisionWith, judgedIn, judgedPlan, votePlan, clashing, planned, inputsFit, stepped}
-use Rattle.controller_laws.specs.Phases.{Busy, Open, Fixed, Free}
-use Rattle.controller_laws.specs.Reasons.{Mine, TooLate, OtherLabel, Shut, Clashed, Refuses, Rests}
+use Rattle.controller_laws.specs.Phases.{Busy, Open, Free}
+use Rattle.controller_laws.specs.Reasons.{Mine, OtherLabel, Refuses}
 use Rattle.controller_laws.specs.Reasons.Mine.{my-query, my-reply, my-advert, my-update, my-vote, my-setpoints}
 use Rattle.controller_laws.specs.Reasons.TooLate.{stale, below, idle}
 use Rattle.controller_laws.specs.Reasons.OtherLabel.{other-query, other-reply, other-vote, other-due, other-collecting-ends, other-voting-ends, other-floor}

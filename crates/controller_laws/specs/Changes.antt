@@ -1,29 +1,21 @@
 -- "What a step doesn't name stays": where each reading, each vote and the state after a step come from.
-use Prim.Native.Nat.{ℕ, _<_}
+use Prim.Native.Nat.{ℕ}
 use mathlib.Core.Path.{_≡_}
 use mathlib.Core.Bool.{true}
 use lib.ListN.{getD}
 use Rattle.units.specs.declared.labels.RoundLabel.{RoundLabel}
-use Rattle.units.specs.declared.settings.Numbers.{Numbers}
-use Rattle.units.specs.Labels.{before, issuedState}
 use Rattle.units.specs.Mask.{inMask}
 use Rattle.vote.specs.declared.digest.Digest.{Digest}
-use Rattle.vote.specs.declared.judge.Decision.the-variants.{Decided}
 use Rattle.vote.specs.declared.votes.Ballot.the-variants.{Cast}
-use Rattle.filter.specs.Compute.{newState}
 use Rattle.message.specs.declared.head.Head.{Head}
-use Rattle.message.specs.declared.head.Head.the-variants.{Reading, Reply, Update, Vote, Floor, Start}
+use Rattle.message.specs.declared.head.Head.the-variants.{Reading, Reply, Vote, Floor, Start}
 use Rattle.message.specs.declared.value.Message.{Message}
 use Rattle.plan.specs.declared.brief.Phase.the-variants.{Pending}
-use Rattle.plan.specs.declared.planned.Sent.{Sent}
 use Rattle.plan.specs.declared.planned.Sent.the-variants.{One}
-use Rattle.plan.specs.Votes.{ownDigest, possessed}
+use Rattle.plan.specs.Votes.{ownDigest}
 use Rattle.controller.specs.declared.state.Controller.{Controller}
 use Rattle.controller.specs.declared.step.Answer.{Answer}
 use Rattle.controller.specs.State.{briefOf, ballotAt}
-use Rattle.controller.specs.Start.{startEstimates}
-use Rattle.controller.specs.Step.{decisionWith}
-use Rattle.controller_laws.specs.Ways.{Votes}
 
 -- the message is no B
 abbrev pub NoStart : Head → Type 0

@@ -1,18 +1,14 @@
 -- What is known of a step by what came of it: a message that it sent, the state that it left. For laws about many controllers together.
 use Prim.Native.Nat.{ℕ}
 use mathlib.Core.Path.{_≡_}
-use mathlib.Core.Bool.{true, false}
+use mathlib.Core.Bool.{true}
 use lib.Bits.{bitAnd}
-use lib.ListN.{getD}
 use Rattle.units.specs.declared.settings.Numbers.{Numbers}
 use Rattle.units.specs.Labels.{before}
-use Rattle.units.specs.Mask.{inMask}
-use Rattle.floats.specs.Ranges.{sameState}
 use Rattle.vote.specs.declared.digest.Digest.{Digest}
 use Rattle.vote.specs.declared.judge.Decision.the-variants.{Decided}
-use Rattle.vote.specs.declared.votes.Ballot.the-variants.{Cast}
 use Rattle.message.specs.declared.head.Head.{Head}
-use Rattle.message.specs.declared.head.Head.the-variants.{Reading, Query, Reply, Advert, Update, Vote, Setpoints, Floor}
+use Rattle.message.specs.declared.head.Head.the-variants.{Query, Reply, Advert, Update, Vote, Setpoints, Floor}
 use Rattle.message.specs.declared.value.Message.{Message}
 use Rattle.plan.specs.declared.brief.Phase.the-variants.{Idle, Collecting, Pending}
 use Rattle.plan.specs.declared.planned.Sent.{Sent}
@@ -20,10 +16,10 @@ use Rattle.plan.specs.Timers.{missingRuns}
 use Rattle.plan.specs.Votes.{ownDigest, possessed}
 use Rattle.controller.specs.declared.state.Controller.{Controller}
 use Rattle.controller.specs.declared.step.Answer.{Answer}
-use Rattle.controller.specs.State.{briefOf, ballotAt}
+use Rattle.controller.specs.State.{briefOf}
 use Rattle.controller.specs.Start.{startEstimates}
 use Rattle.controller.specs.Effects.{counted, issuing}
-use Rattle.controller.specs.Step.{decisionWith, clashing}
+use Rattle.controller.specs.Step.{decisionWith}
 use Rattle.controller_laws.specs.Sendings.{IsSent}
 use Rattle.controller_laws.specs.Ways.{Votes}
 

@@ -11,12 +11,12 @@ use lib.Dec.{eqb, ltb, leb}
 use borrow.Author.Tests.{lt-ltb, le-ltb, ltb-true, ltb-false, eq-eqb, ne-eqb, eqb-true, eqb-false, le-leb, lt-leb, not-true, not-false}
 use Rattle.units.proofs.Every.{and-left, and-right}
 use Rattle.fields.specs.Digits.{pick, digitOf, valueFrom, fixedIn, digitsOf}
-use Rattle.fields.specs.Text.{fieldAt, until}
-use Rattle.fields.specs.Field.{plain, decimalSaid, factorSaid, saidBy, fits, judge, readField, readAt, startOf, readHere}
+use Rattle.fields.specs.Text.{until}
+use Rattle.fields.specs.Field.{plain, decimalSaid, factorSaid, saidBy, judge, readField, startOf, readHere}
 use Rattle.fields.specs.declared.digit.Digits.{Digits}
 use Rattle.fields.specs.declared.digit.Digits.the-variants.{Said, Wrong}
 use Rattle.fields.specs.declared.field.Field.{Field}
-use Rattle.fields.specs.declared.field.Field.the-variants.{Value, Form}
+use Rattle.fields.specs.declared.field.Field.the-variants.{Form}
 use Rattle.fields.specs.declared.spelling.Spelling.{Spelling}
 use Rattle.fields.specs.declared.spelling.Spelling.the-variants.{Decimal, Hex4, Hex16, Factor}
 use Rattle.fields.proofs.Cases.{by-test, by-lt, absurd-by}

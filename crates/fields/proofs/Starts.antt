@@ -1,21 +1,19 @@
 -- THE LAW OF A NUMBER READ WHERE IT STANDS: its one spelling stands there, and it is in range. Assumes nothing.
 use Prim.Native.Nat.{ℕ, zero, suc, _+_, _≤_}
-use mathlib.Core.Path.{_≡_, refl, sym, ap, _∙_}
+use mathlib.Core.Path.{_≡_, refl, ap, _∙_}
 use mathlib.Core.List.{List, [], _∷_, _++_}
 use mathlib.Core.Bool.{true}
 use native.Mathlib.Omega.{arith}
-use lib.ListN.{length, take, drop, length-append, length-drop, take-append-drop}
+use lib.ListN.{length, take, drop, length-append, length-drop}
 use lib.Seq.{drop-drop}
 use lib.Dec.{ltb}
 use Rattle.fields.specs.Digits.{digitOf, digitsOf}
-use Rattle.fields.specs.Text.{firstField}
 use Rattle.fields.specs.Field.{spelled, fits, startOf, readHere}
 use Rattle.fields.specs.declared.field.Field.the-variants.{Value}
 use Rattle.fields.specs.declared.spelling.Spelling.{Spelling}
 use Rattle.fields.specs.declared.spelling.Spelling.the-variants.{Decimal, Hex4, Hex16, Factor}
 use Rattle.fields.proofs.Cases.{by-test}
 use Rattle.fields.proofs.Spellings.{field-only, spelled-some}
-use Rattle.fields.proofs.Texts.{until-take}
 
 digits-prefix : (k : ℕ) (cs : List ℕ) → cs ≡ digitsOf k cs ++ drop (length (digitsOf k cs)) cs
 unfolding digitsOf

@@ -6,7 +6,7 @@ use lib.Dec.{leb, eqb}
 use lib.ListN.{length, take, drop}
 use Rattle.units.specs.Limits.{labelTop, factorDigits, factorScale}
 use Rattle.fields.specs.Digits.{pick, valueFrom, fixedIn, fixed, decimal, digitsOf}
-use Rattle.fields.specs.Text.{firstField, fieldAt, nextAt}
+use Rattle.fields.specs.Text.{fieldAt, nextAt}
 use Rattle.fields.specs.declared.digit.Digits.{Digits}
 use Rattle.fields.specs.declared.digit.Digits.the-variants.{Said, Wrong}
 use Rattle.fields.specs.declared.spelling.Spelling.{Spelling}

@@ -1,8 +1,8 @@
 -- IN RANGE EXACTLY WHEN each clause of document 01 holds: heads, readings, messages, certificates, settings. Assumes nothing.
-use Prim.Native.Nat.{ℕ, _^_, _≤_, _<_}
+use Prim.Native.Nat.{ℕ, _≤_, _<_}
 use native.Mathlib.Omega.{arith}
 use native.Mathlib.Decide.{decLt}
-use mathlib.Core.Path.{_≡_, refl, sym, ap, ap₂, subst, _∙_}
+use mathlib.Core.Path.{_≡_, refl, sym, ap, subst, _∙_}
 use mathlib.Core.Bool.{Bool, true, false, _&&_}
 use mathlib.Core.List.{List}
 use mathlib.Core.Logic.{by-cases}
@@ -13,13 +13,11 @@ use borrow.Author.Tests.{leb-true, le-leb, ltb-true, lt-ltb, le-ltb, eqb-true, e
 use Rattle.units.specs.declared.labels.RoundLabel.{RoundLabel}
 use Rattle.units.specs.declared.labels.StateLabel.{StateLabel}
 use Rattle.units.specs.declared.settings.Group.{Group}
-use Rattle.units.specs.InRange.{GroupInRange, NumbersInRange}
-use Rattle.units.specs.Labels.{roundFits, stateLabelFits, floorFits}
-use Rattle.units.specs.Limits.{labelTop, rawTop, runsTop}
+use Rattle.units.specs.Labels.{roundFits, stateLabelFits}
+use Rattle.units.specs.Limits.{labelTop, rawTop}
 use Rattle.units.specs.Mask.{inMask, maskEnd, maskFits}
 use Rattle.units.specs.Reading.{readingPlace}
 use Rattle.units.specs.Settings.{groupFits, numbersFit}
-use Rattle.units.specs.Within.{within}
 use Rattle.units.proofs.Every.{and-left, and-right, and-both, and-three, every-at, every-all}
 use Rattle.units.proofs.InRange.{within-range, within-made, group-exact, numbers-exact}
 use Rattle.units.proofs.Masks.{mask-end-is}
@@ -28,7 +26,6 @@ use Rattle.floats.specs.Ranges.{stateFits, targetsFit}
 use Rattle.floats.proofs.Places.{state-exact, targets-exact}
 use Rattle.vote.specs.declared.digest.Digest.{Digest}
 use Rattle.vote.specs.Digest.{legal}
-use Rattle.vote.specs.InRange.{LegalDigest}
 use Rattle.vote.proofs.InRange.{legal-exact}
 use Rattle.message.specs.declared.certificate.Certificate.{Certificate}
 use Rattle.message.specs.declared.head.Carried.{Carried}

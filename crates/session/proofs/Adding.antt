@@ -4,9 +4,9 @@ use mir.Syntax.{w64}
 use mir.Val.{Fits}
 use native.Mathlib.Omega.{arith}
 use mathlib.Core.Path.{_≡_, refl, sym, ap, _∙_}
-use mathlib.Core.Bool.{Bool, true, false, not, _&&_, true≢false}
+use mathlib.Core.Bool.{Bool, true, false, _&&_, true≢false}
 use mathlib.Core.List.{List, []}
-use lib.Dec.{eqb, leb}
+use lib.Dec.{leb}
 use lib.ListN.{length, drop, length-drop}
 use borrow.Author.Tests.{eq-eqb, ne-eqb, le-leb, leb-true}
 use borrow.Rule.Slice.PartMut.{midOf, putMid}
@@ -26,7 +26,6 @@ use Rattle.plan.specs.Plan.{does, changeOf}
 use Rattle.fields.proofs.Cases.{by-test, by-lt}
 use Rattle.fields.proofs.Texts.{until-short}
 use Rattle.lines.specs.declared.read.First.{First}
-use Rattle.lines.specs.declared.read.Line.{Line}
 use Rattle.lines.specs.Reading.{firstLine}
 use Rattle.lines.specs.Writing.{answerOf, bufferOf}
 use Rattle.controller.specs.declared.state.Controller.{Controller}

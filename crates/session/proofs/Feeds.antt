@@ -1,14 +1,12 @@
 -- The cases of a call and of the end of the input, as the code takes them. Assumes nothing.
-use Prim.Native.Nat.{ℕ, _+_, _≤_}
+use Prim.Native.Nat.{ℕ, _+_}
 use mathlib.Core.Path.{_≡_, sym, ap, subst, _∙_}
 use mathlib.Core.List.{List}
-use native.Mathlib.Omega.{arith}
 use lib.ListN.{length, take}
 use borrow.Author.Tests.{lt-ltb, le-ltb}
 use Rattle.units.specs.declared.refusal.Verdict.{Verdict}
 use Rattle.units.specs.Pick.{pick}
 use Rattle.fields.proofs.Cases.{by-lt}
-use Rattle.fields.proofs.Texts.{until-short}
 use Rattle.fields.specs.Lines.{feedAt}
 use Rattle.fields.specs.Cut.{lineEnding, lineIn}
 use Rattle.lines.specs.declared.read.Line.{Line}

@@ -1,13 +1,13 @@
 -- A PIECE SERVED: what it takes and writes, and that it is a run of calls of `feed`, each lent the rest of the buffer. Assumes nothing.
-use Prim.Native.Nat.{ℕ, _+_, _-_, _*_, _≤_, _<_}
+use Prim.Native.Nat.{ℕ, _+_, _-_, _*_, _≤_}
 use native.Mathlib.Omega.{arith}
 use mathlib.Core.Path.{_≡_, refl, sym, ap, ap₂, subst, _∙_}
-use mathlib.Core.List.{List, [], _++_, append-assoc}
+use mathlib.Core.List.{List, _++_, append-assoc}
 use mathlib.Core.Bool.{true, false, true≢false}
 use lib.Dec.{eqb}
 use lib.ListN.{length, take, drop, length-append, length-drop, take-append-drop}
 use lib.Seq.{drop-drop, drop-at, take-add, take-at}
-use borrow.Author.Tests.{eqb-true, eq-eqb, eqb-false, lt-ltb, le-ltb}
+use borrow.Author.Tests.{eqb-true}
 use borrow.Rule.Slice.PartMut.{midOf, putMid}
 use Rattle.units.specs.declared.refusal.Verdict.{Verdict}
 use Rattle.units.specs.declared.refusal.Verdict.the-variants.{Taken, Refused}
@@ -16,7 +16,7 @@ use Rattle.message.specs.declared.value.Message.{Message}
 use Rattle.units.specs.Limits.{lineTop}
 use Rattle.units.proofs.Every.{and-left, and-right}
 use Rattle.units.specs.Pick.{pick}
-use Rattle.fields.proofs.Cases.{by-test, by-lt}
+use Rattle.fields.proofs.Cases.{by-test}
 use Rattle.lines.specs.Reading.{firstLine, readLine}
 use Rattle.lines.specs.Writing.{bufferOf}
 use Rattle.controller.specs.declared.state.Controller.{Controller}
@@ -34,13 +34,13 @@ use Rattle.fields.specs.Lines.{feedAt}
 use Rattle.session.specs.Feeding.{advancing, answerPut, lineDone, fed, fedText, lineTurn, putText}
 use Rattle.session.specs.Pieces.{Feeds}
 use Rattle.session.specs.Repeat.{Run, runOn}
-use Rattle.session.specs.Serving.{firstText, goesOn, isRunning, lineAnswer, lineRun, mayRun, planLine, ran, ranOn, runAfter, served, servedText}
+use Rattle.session.specs.Serving.{firstText, goesOn, isRunning, lineRun, mayRun, planLine, ran, ranOn, runAfter, served, servedText}
 use Rattle.session.specs.Turn.{Turn, hears, numbersIn, runningWith, turnBy, verdictText}
-use Rattle.session.proofs.Adding.{goes-room, goes-whole, line-moves}
+use Rattle.session.proofs.Adding.{goes-whole, line-moves}
 use Rattle.session.proofs.Both.{mid-rest, put-rest}
 use Rattle.session.proofs.Exact.{fed-exact, feeds-then, first-all, first-fits, first-is, first-wrote, run-exact}
 use Rattle.session.proofs.Repeating.{run-few}
-use Rattle.session.proofs.Room.{buffer-length, call-wrote, done-room, fed-holds, fed-line, front, progress, put-short, short, text-line, text-none, took-few, wrote-few}
+use Rattle.session.proofs.Room.{buffer-length, call-wrote, done-room, fed-line, front, progress, text-line, took-few, wrote-few}
 
 -- A RUN takes no more than there is, and writes no more than there is room for
 module _ (x : Session) (input : List ℕ) (room : ℕ) where

@@ -1,10 +1,9 @@
 -- What an outcome leaves to do: bytes, or calls. Assumes nothing.
 use Prim.Native.Nat.{ℕ, zero, suc, _+_, _-_, _≤_, _<_}
 use native.Mathlib.Omega.{arith}
-use mathlib.Core.Path.{_≡_, refl}
-use mathlib.Core.Bool.{Bool, true, false, _&&_, not}
+use mathlib.Core.Path.{_≡_}
+use mathlib.Core.Bool.{Bool, true, false}
 use lib.IntN.{ℤ, pos, negsuc}
-use lib.Dec.{ltb}
 use Rattle.units.specs.Pick.{pick}
 use Rattle.station.specs.declared.call.Outcome.{Outcome}
 use Rattle.station.specs.declared.call.Outcome.the-variants.{Moved, Again, Failed}

@@ -1,12 +1,12 @@
 -- A BLOCK HANDED OVER PIECE BY PIECE: what holds after each. Assumes nothing.
 use Prim.Native.Nat.{ℕ, zero, suc, _-_, _+_, _≤_}
 use native.Mathlib.Omega.{arith}
-use mathlib.Core.Path.{_≡_, refl, sym, ap, subst, _∙_}
+use mathlib.Core.Path.{_≡_, sym, ap, subst, _∙_}
 use mathlib.Core.Bool.{Bool, true, false, _&&_, true≢false}
 use mathlib.Core.List.{List, [], _∷_, _++_, append-nil, append-assoc}
 use lib.Dec.{ltb}
 use lib.ListN.{length, take, drop, length-take}
-use lib.Seq.{drop-nil, take-nil, take-add, take-all, take-length, length-take-le}
+use lib.Seq.{drop-nil, take-nil, take-add, take-all}
 use borrow.Author.Tests.{ltb-false}
 use Rattle.fields.proofs.Cases.{by-test}
 use Rattle.session.specs.declared.feed.Session.{Session}

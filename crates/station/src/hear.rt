@@ -1,5 +1,4 @@
 // Reading standard input.
-ghost use mathlib.Core.Path.{_≡_};
 ghost use Prim.Native.Nat.{_≤_};
 ghost use lib.ListN.{length};
 ghost use Rattle.station.specs.Calls.{movedBy};

@@ -6,7 +6,7 @@ use Rattle.controller.specs.State.{briefOf}
 use Rattle.plan.specs.Readings.{planReading, planQuery, planReply}
 use Rattle.plan.specs.States.{planAdvert, planUpdate, planSetpoints}
 use Rattle.plan.specs.Timers.{planDue, planEnds, planVotingEnds}
-use Rattle.plan.specs.Votes.{planFloor, planDigest, judged}
+use Rattle.plan.specs.Votes.{planFloor, planDigest}
 use Prim.Native.Nat.{ℕ}
 use Rattle.plan.specs.declared.brief.Brief.{Brief}
 use Rattle.vote.specs.declared.votes.Ballot.{Ballot}
