@@ -87,7 +87,12 @@ unfolding testEach
 each [] h = tt
 each (r ∷ rs) h = (holds r (and-left (test r) (testEach rs) h), each rs (and-right (test r) (testEach rs) h))
 
+-- what the checker opens of the test
+unfoldable test-computes : Unit {0}
+unfolding testEach test sameDecision measures leaves
+test-computes = tt
+
 -- v1 to v12, c1 and c2
 pub cases : Each table
-unfolding table testEach test sameDecision measures leaves digest-computes judge-computes range-computes run-computes float-computes
+unfolding table test-computes digest-computes judge-computes range-computes run-computes float-computes
 cases = each table refl

@@ -9,12 +9,6 @@ use Rattle.filter_vectors.proofs.cut.Tie as tie
 below : (d most : ℕ) → d % (most + 1) < most + 1
 below d most = mod-lt d (omega arith)
 
-add-result : tie.Need-add-result
-add-result c = search needs
-
-rem-result : tie.Need-rem-result
-rem-result c = search needs
-
 cast-result : tie.Need-cast-result
 cast-result c = record { fits = omega (arith, below (c .args .d) (c .args .most), c .fits .most .fits) }
 
@@ -22,4 +16,4 @@ returns : tie.Need-returns
 returns c = omega (arith, below (c .args .d) (c .args .most))
 
 pub cut-spec : {M : Type 1} → statement M
-cut-spec = tie.close (tie.spec add-result rem-result cast-result returns)
+cut-spec = tie.close (tie.spec (search needs) (search needs) cast-result returns)

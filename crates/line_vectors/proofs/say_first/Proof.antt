@@ -8,14 +8,5 @@ use Rattle.line_vectors.proofs.say_first.Tie as tie
 slice-aggregate-say : tie.Need-slice-aggregate-say
 slice-aggregate-say c = sym (length-take-le _ _ (search needs))
 
-say-requires : tie.Need-say-requires
-say-requires c κs = search needs
-
-returns : tie.Need-returns
-returns c = search needs
-
-returns-2 : tie.Need-returns-2
-returns-2 c = search needs
-
 pub say-first-spec : {M : Type 1} → statement M
-say-first-spec = tie.close (tie.spec slice-aggregate-say say-requires returns returns-2)
+say-first-spec = tie.close (tie.spec slice-aggregate-say (search needs) (λ c. search needs) (λ c. search needs))

@@ -6,9 +6,6 @@ use Rattle.units.proofs.Picked.{by-yes, by-no}
 use Rattle.station.proofs.blocks_left.Statement.{statement}
 use Rattle.station.proofs.blocks_left.Tie as tie
 
-sub-result : tie.Need-sub-result
-sub-result c = search needs
-
 returns : tie.Need-returns
 returns c = (omega (arith, c .before .before .before .pre), by-yes _ (c .if1 .taken) refl)
 
@@ -16,4 +13,4 @@ returns-2 : tie.Need-returns-2
 returns-2 c = (omega (arith, c .before .before .before .pre), by-no _ (c .if1 .left) refl)
 
 pub blocks-left-spec : {M : Type 1} → statement M
-blocks-left-spec = tie.close (tie.spec sub-result returns returns-2)
+blocks-left-spec = tie.close (tie.spec (search needs) returns returns-2)

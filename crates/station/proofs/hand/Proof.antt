@@ -4,14 +4,8 @@ use borrow.Author.Needs.{needs}
 use Rattle.station.proofs.hand.Statement.{statement}
 use Rattle.station.proofs.hand.Tie as tie
 
-handle-requires : tie.Need-handle-requires
-handle-requires c κs = search needs
-
 say-requires : tie.Need-say-requires
 say-requires c κs = let a = c .before .before .before .before .before .before .before .before .args in handed (a .session) (a .piece .now) (a .out .now) _ _ (c .before .before .before .before .handle .ensures) .room
-
-same-length : tie.Need-same-length
-same-length c = search needs
 
 returns : tie.Need-returns
 returns c =
@@ -21,4 +15,4 @@ returns c =
     record { some = handed-some (a .session) (a .piece .now) _ _ (c .before .before .before .before .before .handle .ensures .0) (s .pre .1) (s .pre .0); few = h .few; calls = h .calls }
 
 pub hand-spec : {M : Type 1} → statement M
-hand-spec = tie.close (tie.spec handle-requires say-requires same-length returns)
+hand-spec = tie.close (tie.spec (search needs) say-requires (search needs) returns)

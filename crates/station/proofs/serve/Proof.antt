@@ -22,9 +22,6 @@ abbrev μ-loop : tie.MeasureT-loop
 loop-holds : tie.Need-loop-holds Inv-loop μ-loop
 loop-holds c = (c .before .before .pre .0, c .before .before .pre .1, starts _ _ _, refl)
 
-goes-on-requires : tie.Need-goes-on-requires Inv-loop μ-loop
-goes-on-requires c κs = search needs
-
 sub-hand : tie.Need-sub-hand Inv-loop μ-loop
 sub-hand c = c .before .before .loop .inv .2 .within
 
@@ -68,19 +65,5 @@ returns : tie.Need-returns Inv-loop μ-loop
 returns c = ends _ _ _ (c .before .before .loop .inv .2) (sym (c .before .goes-on .ensures) ∙ c .if1 .left)
 
 pub serve-spec : {M : Type 1} → statement M
-serve-spec =
-    tie.close
-    (tie.spec
-    Inv-loop
-    μ-loop
-    loop-holds
-    goes-on-requires
-    sub-hand
-    part-hand-start
-    part-hand-end
-    hand-requires
-    add-at
-    loop-less
-    loop-again
-    same-length
+serve-spec = tie.close (tie.spec Inv-loop μ-loop loop-holds (search needs) sub-hand part-hand-start part-hand-end hand-requires add-at loop-less loop-again same-length
     returns)

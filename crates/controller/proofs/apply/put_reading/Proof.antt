@@ -8,17 +8,8 @@ use borrow.Author.Needs.{needs}
 use Rattle.controller.proofs.apply.put_reading.Statement.{statement}
 use Rattle.controller.proofs.apply.put_reading.Tie as tie
 
-mul-next : tie.Need-mul-next
-mul-next c = search needs
-
-array-write-next : tie.Need-array-write-next
-array-write-next c = search needs
-
-returns : tie.Need-returns
-returns c = search needs
-
 returns-2 : tie.Need-returns-2
 returns-2 c = let l = c .before .args .readings in let h : length l ≤ c .before .args .run = omega arith in sym (set-out l (c .before .args .run) (c .before .args .raw) h)
 
 pub put-reading-spec : {M : Type 1} → statement M
-put-reading-spec = tie.close (tie.spec mul-next array-write-next returns returns-2)
+put-reading-spec = tie.close (tie.spec (search needs) (search needs) (λ c. search needs) returns-2)

@@ -25,36 +25,6 @@ abbrev μ-loop : tie.MeasureT-loop
 loop-holds : tie.Need-loop-holds Inv-loop μ-loop
 loop-holds c = let l = c .args .old in let long : length l ≡ 16 = omega arith in (omega arith, fill-none (place (c .args .mask) (c .args .t2) l) 0 16 l long)
 
-has-requires : tie.Need-has-requires Inv-loop μ-loop
-has-requires c κs = search needs
-
-mul-place-merged : tie.Need-mul-place-merged Inv-loop μ-loop
-mul-place-merged c = search needs
-
-array-read-place-merged : tie.Need-array-read-place-merged Inv-loop μ-loop
-array-read-place-merged c = search needs
-
-mul-place-merged-2 : tie.Need-mul-place-merged-2 Inv-loop μ-loop
-mul-place-merged-2 c = search needs
-
-array-read-place-merged-2 : tie.Need-array-read-place-merged-2 Inv-loop μ-loop
-array-read-place-merged-2 c = search needs
-
-place-merged-requires : tie.Need-place-merged-requires Inv-loop μ-loop
-place-merged-requires c κs = search needs
-
-mul-next : tie.Need-mul-next Inv-loop μ-loop
-mul-next c = search needs
-
-array-write-next : tie.Need-array-write-next Inv-loop μ-loop
-array-write-next c = search needs
-
-add-i : tie.Need-add-i Inv-loop μ-loop
-add-i c = omega arith
-
-loop-less : tie.Need-loop-less Inv-loop μ-loop
-loop-less c = omega arith
-
 loop-again : tie.Need-loop-again Inv-loop μ-loop
 loop-again c =
     let a = c .before .before .before .before .args in let v = c .before .before .before .loop in let h : v .i < 16 = omega arith in (
@@ -69,21 +39,5 @@ unfolding merged
 returns c = let a = c .before .before .args in let v = c .before .loop in let h : 16 ≤ v .i = omega arith in fill-done (place (a .mask) (a .t2) (a .old)) 0 16 (a .old) (v .next) (v .i) (v .inv .1) h
 
 pub merge-readings-spec : {M : Type 1} → statement M
-merge-readings-spec =
-    tie.close
-    (tie.spec
-    Inv-loop
-    μ-loop
-    loop-holds
-    has-requires
-    mul-place-merged
-    array-read-place-merged
-    mul-place-merged-2
-    array-read-place-merged-2
-    place-merged-requires
-    mul-next
-    array-write-next
-    add-i
-    loop-less
-    loop-again
-    returns)
+merge-readings-spec = tie.close (tie.spec Inv-loop μ-loop loop-holds (search needs) (search needs) (search needs) (search needs) (search needs) (search needs)
+    (search needs) (search needs) (λ c. omega arith) (λ c. omega arith) loop-again returns)

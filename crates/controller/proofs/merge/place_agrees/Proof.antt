@@ -6,8 +6,5 @@ use Rattle.controller.proofs.merge.place_agrees.Tie as tie
 returns : tie.Need-returns
 returns c = cc
 
-returns-2 : tie.Need-returns-2
-returns-2 c = search needs
-
 pub place-agrees-spec : {M : Type 1} → statement M
-place-agrees-spec = tie.close (tie.spec returns returns-2)
+place-agrees-spec = tie.close (tie.spec returns (λ c. search needs))

@@ -21,30 +21,6 @@ loop-holds : tie.Need-loop-holds Inv-loop μ-loop
 unfolding every
 loop-holds c = (omega arith, refl)
 
-has-requires : tie.Need-has-requires Inv-loop μ-loop
-has-requires c κs = search needs
-
-mul-place-agrees : tie.Need-mul-place-agrees Inv-loop μ-loop
-mul-place-agrees c = search needs
-
-array-read-place-agrees : tie.Need-array-read-place-agrees Inv-loop μ-loop
-array-read-place-agrees c = search needs
-
-mul-place-agrees-2 : tie.Need-mul-place-agrees-2 Inv-loop μ-loop
-mul-place-agrees-2 c = search needs
-
-array-read-place-agrees-2 : tie.Need-array-read-place-agrees-2 Inv-loop μ-loop
-array-read-place-agrees-2 c = search needs
-
-place-agrees-requires : tie.Need-place-agrees-requires Inv-loop μ-loop
-place-agrees-requires c κs = search needs
-
-add-i : tie.Need-add-i Inv-loop μ-loop
-add-i c = omega arith
-
-loop-less : tie.Need-loop-less Inv-loop μ-loop
-loop-less c = omega arith
-
 loop-again : tie.Need-loop-again Inv-loop μ-loop
 loop-again c =
     let a = c .before .before .before .before .args in let v = c .before .before .before .loop in (
@@ -58,19 +34,5 @@ unfolding agrees
 returns c = let a = c .before .before .args in let e : c .before .loop .i ≡ 16 = omega arith in c .before .loop .inv .1 ∙ ap (every (agreeAt (a .shared) (a .t2) (a .t3))) e
 
 pub readings-agree-spec : {M : Type 1} → statement M
-readings-agree-spec =
-    tie.close
-    (tie.spec
-    Inv-loop
-    μ-loop
-    loop-holds
-    has-requires
-    mul-place-agrees
-    array-read-place-agrees
-    mul-place-agrees-2
-    array-read-place-agrees-2
-    place-agrees-requires
-    add-i
-    loop-less
-    loop-again
-    returns)
+readings-agree-spec = tie.close (tie.spec Inv-loop μ-loop loop-holds (search needs) (search needs) (search needs) (search needs) (search needs) (search needs)
+    (λ c. omega arith) (λ c. omega arith) loop-again returns)

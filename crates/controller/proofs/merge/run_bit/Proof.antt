@@ -14,15 +14,9 @@ returns : tie.Need-returns
 unfolding runBit
 returns c = by-yes _ (le-leb 16 (c .before .args .run) (c .if1 .taken)) refl
 
-cast-result : tie.Need-cast-result
-cast-result c = search needs
-
-shl-result : tie.Need-shl-result
-shl-result c = search needs
-
 returns-2 : tie.Need-returns-2
 unfolding runBit
 returns-2 c = let h : c .before .args .run ≤ 16 = omega arith in by-no _ (lt-leb 16 (c .before .args .run) (c .if1 .left)) (shifted (c .before .args .run) h ∙ mask-end-is (c .before .args .run) h)
 
 pub run-bit-spec : {M : Type 1} → statement M
-run-bit-spec = tie.close (tie.spec returns cast-result shl-result returns-2)
+run-bit-spec = tie.close (tie.spec returns (search needs) (search needs) returns-2)

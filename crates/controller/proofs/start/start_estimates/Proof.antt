@@ -24,21 +24,6 @@ abbrev μ-loop : tie.MeasureT-loop
 loop-holds : tie.Need-loop-holds Inv-loop μ-loop
 loop-holds c = (omega arith, fill-none (place (c .args .m) (c .args .p)) noEstimate 16 (replicate 16 blank) refl)
 
-start-place-requires : tie.Need-start-place-requires Inv-loop μ-loop
-start-place-requires c κs = search needs
-
-mul-estimates : tie.Need-mul-estimates Inv-loop μ-loop
-mul-estimates c = search needs
-
-array-set-from-estimates : tie.Need-array-set-from-estimates Inv-loop μ-loop
-array-set-from-estimates c = search needs
-
-add-i : tie.Need-add-i Inv-loop μ-loop
-add-i c = omega arith
-
-loop-less : tie.Need-loop-less Inv-loop μ-loop
-loop-less c = omega arith
-
 loop-again : tie.Need-loop-again Inv-loop μ-loop
 loop-again c = let a = c .before .before .before .args in let v = c .before .before .loop in let h : v .i < 16 = omega arith in (omega arith, fill-more (place (a .m) (a .p)) noEstimate 16 (replicate 16 blank) (v .estimates) (v .i) (c .start-place .result) (v .inv .1) h (c .start-place .ensures))
 
@@ -47,16 +32,5 @@ unfolding startEstimates
 returns c = let a = c .before .before .args in let v = c .before .loop in let h : 16 ≤ v .i = omega arith in fill-done (place (a .m) (a .p)) noEstimate 16 (replicate 16 blank) (v .estimates) (v .i) (v .inv .1) h
 
 pub start-estimates-spec : {M : Type 1} → statement M
-start-estimates-spec =
-    tie.close
-    (tie.spec
-    Inv-loop
-    μ-loop
-    loop-holds
-    start-place-requires
-    mul-estimates
-    array-set-from-estimates
-    add-i
-    loop-less
-    loop-again
+start-estimates-spec = tie.close (tie.spec Inv-loop μ-loop loop-holds (search needs) (search needs) (search needs) (λ c. omega arith) (λ c. omega arith) loop-again
     returns)

@@ -7,9 +7,6 @@ use borrow.Author.Needs.{needs}
 use Rattle.controller.proofs.start.start_place.Statement.{statement}
 use Rattle.controller.proofs.start.start_place.Tie as tie
 
-int-to-float-t5 : tie.Need-int-to-float-t5
-int-to-float-t5 c = search needs
-
 returns : tie.Need-returns
 returns c = along (λ (t : Bool). startAt t (c .before .before .args .p)) (c .before .if1 .taken) refl
 
@@ -17,4 +14,4 @@ returns-2 : tie.Need-returns-2
 returns-2 c = along (λ (t : Bool). startAt t (c .before .args .p)) (c .if1 .left) refl
 
 pub start-place-spec : {M : Type 1} → statement M
-start-place-spec = tie.close (tie.spec int-to-float-t5 returns returns-2)
+start-place-spec = tie.close (tie.spec (search needs) returns returns-2)

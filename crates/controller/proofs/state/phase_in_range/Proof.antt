@@ -10,39 +10,6 @@ use borrow.Author.Needs.{needs}
 use Rattle.controller.proofs.state.phase_in_range.Statement.{statement}
 use Rattle.controller.proofs.state.phase_in_range.Tie as tie
 
-own-digest-requires : tie.Need-own-digest-requires
-own-digest-requires c κs = search needs
-
-enum-told : tie.Need-enum-told
-enum-told c = search needs
-
-enum-told-2 : tie.Need-enum-told-2
-enum-told-2 c = search needs
-
-legal-requires : tie.Need-legal-requires
-legal-requires c κs = search needs
-
-is-cast-requires : tie.Need-is-cast-requires
-is-cast-requires c κs = search needs
-
-enum-told-3 : tie.Need-enum-told-3
-enum-told-3 c = search needs
-
-legal-requires-2 : tie.Need-legal-requires-2
-legal-requires-2 c κs = search needs
-
-is-cast-requires-2 : tie.Need-is-cast-requires-2
-is-cast-requires-2 c κs = search needs
-
-enum-told-4 : tie.Need-enum-told-4
-enum-told-4 c = search needs
-
-legal-requires-3 : tie.Need-legal-requires-3
-legal-requires-3 c κs = search needs
-
-is-cast-requires-3 : tie.Need-is-cast-requires-3
-is-cast-requires-3 c κs = search needs
-
 returns : tie.Need-returns
 unfolding phaseFits
 returns c = along (phaseFits (c .before .before .before .before .args .b) (c .before .before .before .before .args .m) (c .before .before .before .before .args .own)) (c .enum-told .given .1) (refl)
@@ -66,21 +33,5 @@ returns-4 c =
     along (phaseFits (a .b) (a .m) (a .own)) (c .before .before .enum-told4 .given .1) (ap₂ _&&_ (c .before .legal3 .ensures ∙ ap (legal (a .m) (a .b .label)) (c .before .before .before .before .own-digest .ensures)) (c .is-cast3 .ensures))
 
 pub phase-in-range-spec : {M : Type 1} → statement M
-phase-in-range-spec =
-    tie.close
-    (tie.spec
-    own-digest-requires
-    enum-told
-    enum-told-2
-    legal-requires
-    is-cast-requires
-    enum-told-3
-    legal-requires-2
-    is-cast-requires-2
-    enum-told-4
-    legal-requires-3
-    is-cast-requires-3
-    returns
-    returns-2
-    returns-3
-    returns-4)
+phase-in-range-spec = tie.close (tie.spec (search needs) (search needs) (search needs) (search needs) (search needs) (search needs) (search needs) (search needs)
+    (search needs) (search needs) (search needs) returns returns-2 returns-3 returns-4)

@@ -4,12 +4,6 @@ use borrow.Author.Needs.{needs}
 use Rattle.controller.proofs.told.number_sent.Statement.{statement}
 use Rattle.controller.proofs.told.number_sent.Tie as tie
 
-enum-told : tie.Need-enum-told
-enum-told c = search needs
-
-enum-told-2 : tie.Need-enum-told-2
-enum-told-2 c = search needs
-
 returns : tie.Need-returns
 unfolding sentCount
 returns c = search needs
@@ -19,4 +13,4 @@ unfolding sentCount
 returns-2 c = search needs
 
 pub number-sent-spec : {M : Type 1} → statement M
-number-sent-spec = tie.close (tie.spec enum-told enum-told-2 returns returns-2)
+number-sent-spec = tie.close (tie.spec (search needs) (search needs) returns returns-2)

@@ -9,14 +9,5 @@ use Rattle.controller_chains.proofs.print.front.Tie as tie
 slice-aggregate-write-all : tie.Need-slice-aggregate-write-all
 slice-aggregate-write-all c = sym (length-take-le _ _ (omega arith))
 
-write-all-requires : tie.Need-write-all-requires
-write-all-requires c κs = search needs
-
-returns : tie.Need-returns
-returns c = search needs
-
-returns-2 : tie.Need-returns-2
-returns-2 c = search needs
-
 pub front-spec : {M : Type 1} → statement M
-front-spec = tie.close (tie.spec slice-aggregate-write-all write-all-requires returns returns-2)
+front-spec = tie.close (tie.spec slice-aggregate-write-all (search needs) (λ c. search needs) (λ c. search needs))

@@ -21,26 +21,11 @@ abbrev μ-loop : tie.MeasureT-loop
 loop-holds : tie.Need-loop-holds Inv-loop μ-loop
 loop-holds c = seen-start _ _
 
-shared-slice-read-b : tie.Need-shared-slice-read-b Inv-loop μ-loop
-shared-slice-read-b c = omega arith
-
-is-visible-requires : tie.Need-is-visible-requires Inv-loop μ-loop
-is-visible-requires c κs = search needs
-
 returns : tie.Need-returns Inv-loop μ-loop
 returns c = seen-wrong _ _ _ (c .before .before .before .before .before .loop .inv) (c .before .before .before .before .loop-test .taken) (c .before .before .if1 .left) _ (c .before .is-visible .ensures) (c .if2 .taken)
 
-add-i : tie.Need-add-i Inv-loop μ-loop
-add-i c = omega arith
-
-loop-less : tie.Need-loop-less Inv-loop μ-loop
-loop-less c = omega arith
-
 loop-again : tie.Need-loop-again Inv-loop μ-loop
 loop-again c = seen-again _ _ _ (c .before .before .before .before .before .loop .inv) (c .before .before .before .before .loop-test .taken) (c .before .before .if1 .left) _ (c .before .is-visible .ensures) (c .if2 .left)
-
-sub-n : tie.Need-sub-n Inv-loop μ-loop
-sub-n c = omega arith
 
 -- by its test or at a tab, the loop is left where the field ends
 left : (c : tie.Left-loop Inv-loop μ-loop) → ends (drop (c .before .loop .i) (c .before .before .before .args .text .now)) ≡ true
@@ -53,18 +38,5 @@ returns-3 : tie.Need-returns-3 Inv-loop μ-loop
 returns-3 c = seen-size _ _ _ (c .before .before .loop .inv) (left (c .before)) (c .if3 .left)
 
 pub certificate-end-spec : {M : Type 1} → statement M
-certificate-end-spec =
-    tie.close
-    (tie.spec
-    Inv-loop
-    μ-loop
-    loop-holds
-    shared-slice-read-b
-    is-visible-requires
-    returns
-    add-i
-    loop-less
-    loop-again
-    sub-n
-    returns-2
-    returns-3)
+certificate-end-spec = tie.close (tie.spec Inv-loop μ-loop loop-holds (λ c. omega arith) (search needs) returns (λ c. omega arith) (λ c. omega arith) loop-again
+    (λ c. omega arith) returns-2 returns-3)

@@ -17,12 +17,6 @@ abbrev μ-loop : tie.MeasureT-loop
 loop-holds : tie.Need-loop-holds Inv-loop μ-loop
 loop-holds c = (omega arith, omega arith)
 
-add-k : tie.Need-add-k Inv-loop μ-loop
-add-k c = omega arith
-
-loop-less : tie.Need-loop-less Inv-loop μ-loop
-loop-less c = omega arith
-
 loop-again : tie.Need-loop-again Inv-loop μ-loop
 loop-again c = (omega arith, width-again (c .before .before .args .n) (c .before .loop .m) (c .before .loop .k) (c .loop-test .taken) (c .before .loop .inv .1))
 
@@ -30,5 +24,4 @@ returns : tie.Need-returns Inv-loop μ-loop
 returns c = width-end (c .before .before .args .n) (c .before .loop .m) (c .before .loop .k) (c .loop-test .left) (c .before .loop .inv .1)
 
 pub decimal-width-spec : {M : Type 1} → statement M
-decimal-width-spec =
-    tie.close (tie.spec Inv-loop μ-loop loop-holds add-k loop-less loop-again returns)
+decimal-width-spec = tie.close (tie.spec Inv-loop μ-loop loop-holds (λ c. omega arith) (λ c. omega arith) loop-again returns)

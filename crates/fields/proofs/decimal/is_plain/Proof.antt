@@ -6,9 +6,6 @@ use borrow.Author.Needs.{needs}
 use Rattle.fields.proofs.decimal.is_plain.Statement.{statement}
 use Rattle.fields.proofs.decimal.is_plain.Tie as tie
 
-ends-at-requires : tie.Need-ends-at-requires
-ends-at-requires c κs = search needs
-
 returns : tie.Need-returns
 returns c = plain-none _ (sym (c .before .ends-at .ensures) ∙ c .if1 .taken)
 
@@ -23,21 +20,9 @@ add-ends-at c = let a = c .before .before .before .before .before .args in
     let h = open-within (a .text .now) (a .at) (sym (c .before .before .before .ends-at .ensures) ∙ c .before .before .if1 .left) in
     omega arith
 
-ends-at-requires-2 : tie.Need-ends-at-requires-2
-ends-at-requires-2 c κs = search needs
-
 returns-3 : tie.Need-returns-3
 returns-3 c = let a = c .before .before .before .before .before .before .args in
     c .ends-at2 .ensures ∙ plain-zero (a .text .now) (a .at) (sym (c .before .before .before .before .ends-at .ensures) ∙ c .before .before .before .if1 .left) (c .before .if2 .left)
 
 pub is-plain-spec : {M : Type 1} → statement M
-is-plain-spec =
-    tie.close
-    (tie.spec
-    ends-at-requires
-    returns
-    shared-slice-read-if2
-    returns-2
-    add-ends-at
-    ends-at-requires-2
-    returns-3)
+is-plain-spec = tie.close (tie.spec (search needs) returns shared-slice-read-if2 returns-2 add-ends-at (search needs) returns-3)

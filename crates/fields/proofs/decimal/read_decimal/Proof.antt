@@ -16,51 +16,21 @@ Inv-loop text at low high n₀ i₀ n i = (i ≤ length text) × (at + length (f
 abbrev μ-loop : tie.MeasureT-loop
 μ-loop text at low high n₀ i₀ n i = length text - i
 
-is-plain-requires : tie.Need-is-plain-requires Inv-loop μ-loop
-is-plain-requires c κs = search needs
-
 returns : tie.Need-returns Inv-loop μ-loop
 returns c = decimal-form _ _ _ _ _ (c .before .is-plain .ensures) (c .if1 .taken)
 
 loop-holds : tie.Need-loop-holds Inv-loop μ-loop
 loop-holds c = (plain-within _ _ _ (c .before .is-plain .ensures) (c .if1 .left), refl, read-start _ _ refl)
 
-shared-slice-read-b : tie.Need-shared-slice-read-b Inv-loop μ-loop
-shared-slice-read-b c = omega arith
-
-add-judged : tie.Need-add-judged Inv-loop μ-loop
-add-judged c = omega arith
-
-judged-requires : tie.Need-judged-requires Inv-loop μ-loop
-judged-requires c κs = search needs
-
 returns-2 : tie.Need-returns-2 Inv-loop μ-loop
 returns-2 c = let l = c .before .before .before .before .loop in
     decimal-value _ _ _ _ _ (c .before .before .before .before .before .before .is-plain .ensures) (c .before .before .before .before .before .if1 .left) _ _ (l .inv .2) _ (l .inv .1)
     (ends-tab _ _ (c .before .before .before .loop-test .taken) (c .before .if2 .taken)) (c .judged .ensures)
 
-digit-requires : tie.Need-digit-requires Inv-loop μ-loop
-digit-requires c κs = search needs
-
 returns-3 : tie.Need-returns-3 Inv-loop μ-loop
 returns-3 c = let l = c .before .before .before .before .before .loop in
     decimal-wrong _ _ _ _ _ (c .before .before .before .before .before .before .before .is-plain .ensures) (c .before .before .before .before .before .before .if1 .left) _ _ (l .inv .2)
     (c .before .before .before .before .loop-test .taken) (c .before .before .if2 .left) _ (c .before .digit .ensures) (c .if3 .taken)
-
-cast-if4 : tie.Need-cast-if4 Inv-loop μ-loop
-cast-if4 c = search needs
-
-mul-n : tie.Need-mul-n Inv-loop μ-loop
-mul-n c = omega arith
-
-add-n : tie.Need-add-n Inv-loop μ-loop
-add-n c = omega arith
-
-add-i : tie.Need-add-i Inv-loop μ-loop
-add-i c = omega arith
-
-loop-less : tie.Need-loop-less Inv-loop μ-loop
-loop-less c = omega arith
 
 loop-again : tie.Need-loop-again Inv-loop μ-loop
 loop-again c = let l = c .before .before .before .before .before .before .loop in
@@ -73,38 +43,11 @@ loop-again c = let l = c .before .before .before .before .before .before .loop i
       ⊎-elim (λ x. rw (x .1) (read-grown _ _ _ _ (l .inv .2) h n _ e (omega arith) (x .0 .taken))) (λ x. rw (x .1) (read-kept _ _ _ _ (l .inv .2) h n _ e (omega arith) (x .0 .left))) (c .if4 .came),
     )
 
-add-judged-2 : tie.Need-add-judged-2 Inv-loop μ-loop
-add-judged-2 c = omega arith
-
-judged-requires-2 : tie.Need-judged-requires-2 Inv-loop μ-loop
-judged-requires-2 c κs = search needs
-
 returns-4 : tie.Need-returns-4 Inv-loop μ-loop
 returns-4 c = let l = c .before .before .loop in
     decimal-value _ _ _ _ _ (c .before .before .before .before .is-plain .ensures) (c .before .before .before .if1 .left) _ _ (l .inv .2) _ (l .inv .1)
     (sym (ends-none _ _ (c .before .loop-test .left))) (c .judged2 .ensures)
 
 pub read-decimal-spec : {M : Type 1} → statement M
-read-decimal-spec =
-    tie.close
-    (tie.spec
-    Inv-loop
-    μ-loop
-    is-plain-requires
-    returns
-    loop-holds
-    shared-slice-read-b
-    add-judged
-    judged-requires
-    returns-2
-    digit-requires
-    returns-3
-    cast-if4
-    mul-n
-    add-n
-    add-i
-    loop-less
-    loop-again
-    add-judged-2
-    judged-requires-2
-    returns-4)
+read-decimal-spec = tie.close (tie.spec Inv-loop μ-loop (search needs) returns loop-holds (λ c. omega arith) (λ c. omega arith) (search needs) returns-2 (search needs)
+    returns-3 (search needs) (λ c. omega arith) (λ c. omega arith) (λ c. omega arith) (λ c. omega arith) loop-again (λ c. omega arith) (search needs) returns-4)

@@ -4,18 +4,6 @@ use borrow.Author.Needs.{needs}
 use Rattle.fields.proofs.digit.byte_of.Statement.{statement}
 use Rattle.fields.proofs.digit.byte_of.Tie as tie
 
-add-result : tie.Need-add-result
-add-result c = search needs
-
-cast-result : tie.Need-cast-result
-cast-result c = search needs
-
-add-result-2 : tie.Need-add-result-2
-add-result-2 c = search needs
-
-cast-result-2 : tie.Need-cast-result-2
-cast-result-2 c = search needs
-
 returns : tie.Need-returns
 returns c = byte-decimal _ (c .if1 .taken)
 
@@ -23,5 +11,4 @@ returns-2 : tie.Need-returns-2
 returns-2 c = byte-letter _ (c .if1 .left)
 
 pub byte-of-spec : {M : Type 1} → statement M
-byte-of-spec =
-    tie.close (tie.spec add-result cast-result add-result-2 cast-result-2 returns returns-2)
+byte-of-spec = tie.close (tie.spec (search needs) (search needs) (search needs) (search needs) returns returns-2)

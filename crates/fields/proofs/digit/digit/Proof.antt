@@ -13,15 +13,6 @@ returns-2 c = digit-high _ (c .if2 .taken)
 returns-3 : tie.Need-returns-3
 returns-3 c = digit-gap _ (c .if3 .taken)
 
-cast-result : tie.Need-cast-result
-cast-result c = search needs
-
-sub-result : tie.Need-sub-result
-sub-result c = search needs
-
-cast-result-2 : tie.Need-cast-result-2
-cast-result-2 c = search needs
-
 returns-4 : tie.Need-returns-4
 returns-4 c = digit-decimal _ (c .before .before .before .if1 .left) (c .if4 .taken)
 
@@ -29,6 +20,4 @@ returns-5 : tie.Need-returns-5
 returns-5 c = digit-letter _ (c .before .before .if2 .left) (c .if4 .left) (c .before .if3 .left)
 
 pub digit-spec : {M : Type 1} → statement M
-digit-spec =
-    tie.close
-    (tie.spec returns returns-2 returns-3 cast-result sub-result cast-result-2 returns-4 returns-5)
+digit-spec = tie.close (tie.spec returns returns-2 returns-3 (search needs) (search needs) (search needs) returns-4 returns-5)

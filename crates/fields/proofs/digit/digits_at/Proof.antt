@@ -18,23 +18,11 @@ abbrev μ-loop : tie.MeasureT-loop
 returns : tie.Need-returns Inv-loop μ-loop
 returns c = let a = c .before .before .args in digits-short (a .text .now) (a .at) (a .k) (a .base) (a .from) (omega arith) (omega arith)
 
-sub-if2 : tie.Need-sub-if2 Inv-loop μ-loop
-sub-if2 c = omega arith
-
 returns-2 : tie.Need-returns-2 Inv-loop μ-loop
 returns-2 c = let a = c .before .before .before .args in digits-short (a .text .now) (a .at) (a .k) (a .base) (a .from) (omega arith) (omega arith)
 
 loop-holds : tie.Need-loop-holds Inv-loop μ-loop
 loop-holds c = let a = c .before .before .before .args in (omega arith, omega arith, digits-start (a .text .now) (a .at) (a .k) (a .base) (a .from) (omega arith), omega arith)
-
-add-digit : tie.Need-add-digit Inv-loop μ-loop
-add-digit c = omega arith
-
-shared-slice-read-digit : tie.Need-shared-slice-read-digit Inv-loop μ-loop
-shared-slice-read-digit c = omega arith
-
-digit-requires : tie.Need-digit-requires Inv-loop μ-loop
-digit-requires c κs = search needs
 
 returns-3 : tie.Need-returns-3 Inv-loop μ-loop
 returns-3 c = let l = c .before .before .before .before .loop in
@@ -54,12 +42,6 @@ add-n c = let l = c .before .before .before .before .loop in
     let h = grown-fits (a .from) (a .k) (l .i) (omega arith) (omega arith) in
     omega arith
 
-add-i : tie.Need-add-i Inv-loop μ-loop
-add-i c = omega arith
-
-loop-less : tie.Need-loop-less Inv-loop μ-loop
-loop-less c = omega arith
-
 loop-again : tie.Need-loop-again Inv-loop μ-loop
 loop-again c = let l = c .before .before .before .before .loop in
     let a = c .before .before .before .before .before .before .before .before .args in (
@@ -73,22 +55,5 @@ returns-4 : tie.Need-returns-4 Inv-loop μ-loop
 returns-4 c = let l = c .before .loop in digits-end _ _ _ _ _ (l .inv .1) _ _ 0 (l .inv .2) (c .loop-test .left)
 
 pub digits-at-spec : {M : Type 1} → statement M
-digits-at-spec =
-    tie.close
-    (tie.spec
-    Inv-loop
-    μ-loop
-    returns
-    sub-if2
-    returns-2
-    loop-holds
-    add-digit
-    shared-slice-read-digit
-    digit-requires
-    returns-3
-    mul-n
-    add-n
-    add-i
-    loop-less
-    loop-again
-    returns-4)
+digits-at-spec = tie.close (tie.spec Inv-loop μ-loop returns (λ c. omega arith) returns-2 loop-holds (λ c. omega arith) (λ c. omega arith) (search needs) returns-3 mul-n
+    add-n (λ c. omega arith) (λ c. omega arith) loop-again returns-4)

@@ -8,26 +8,11 @@ use borrow.Author.Needs.{needs}
 use Rattle.fields.proofs.factor.put_factor.Statement.{statement}
 use Rattle.fields.proofs.factor.put_factor.Tie as tie
 
-cast-whole : tie.Need-cast-whole
-cast-whole c = search needs
-
-div-whole : tie.Need-div-whole
-div-whole c = search needs
-
 returns : tie.Need-returns
 returns c = factor-over _ _ _ (c .if1 .taken)
 
-add-has-room : tie.Need-add-has-room
-add-has-room c = search needs
-
-has-room-requires : tie.Need-has-room-requires
-has-room-requires c κs = search needs
-
 returns-2 : tie.Need-returns-2
 returns-2 c = factor-none _ _ _ (c .before .before .if1 .left) _ (c .before .has-room .ensures) (c .if2 .taken)
-
-byte-of-requires : tie.Need-byte-of-requires
-byte-of-requires c κs = search needs
 
 slice-write-buf : tie.Need-slice-write-buf
 slice-write-buf c = let a = c .before .before .before .before .before .args in let h = room-here _ (a .at) (2 + factorDigits) (length (a .buf .now)) (c .before .before .has-room .ensures) (c .before .if2 .left) in omega arith
@@ -53,20 +38,5 @@ returns-3 c = let a = c .before .before .before .before .before .before .before 
     _ _ _ (c .before .before .before .before .byte-of .ensures) (c .before .before .put-decimal .ensures .0) (c .before .before .put-decimal .ensures .1)
 
 pub put-factor-spec : {M : Type 1} → statement M
-put-factor-spec =
-    tie.close
-    (tie.spec
-    cast-whole
-    div-whole
-    returns
-    add-has-room
-    has-room-requires
-    returns-2
-    byte-of-requires
-    slice-write-buf
-    add-buf
-    slice-write-buf-2
-    add-put-decimal
-    put-decimal-requires
-    same-length
-    returns-3)
+put-factor-spec = tie.close (tie.spec (search needs) (search needs) returns (search needs) (search needs) returns-2 (search needs) slice-write-buf add-buf
+    slice-write-buf-2 add-put-decimal put-decimal-requires same-length returns-3)

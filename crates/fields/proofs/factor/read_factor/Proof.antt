@@ -7,17 +7,8 @@ use borrow.Author.Needs.{needs}
 use Rattle.fields.proofs.factor.read_factor.Statement.{statement}
 use Rattle.fields.proofs.factor.read_factor.Tie as tie
 
-digits-at-requires : tie.Need-digits-at-requires
-digits-at-requires c κs = search needs
-
-enum-known-whole : tie.Need-enum-known-whole
-enum-known-whole c = search needs
-
 add-is-at : tie.Need-add-is-at
 add-is-at c = let a = c .before .before .before .before .before .args in let h : a .at + 1 ≤ length (a .text .now) = search (needs, factor-within) in omega arith
-
-is-at-requires : tie.Need-is-at-requires
-is-at-requires c κs = search needs
 
 returns : tie.Need-returns
 returns c = search (needs, factor-pointless)
@@ -28,32 +19,17 @@ add-digits-at c = let a = c .before .before .before .before .before .before .bef
 digits-at-requires-2 : tie.Need-digits-at-requires-2
 digits-at-requires-2 c κs = let h : c .before .before .before .whole .given .0 .0 < 10 = search (needs, whole-small) in (omega arith, omega arith, omega arith)
 
-enum-known-n : tie.Need-enum-known-n
-enum-known-n c = search needs
-
 add-end : tie.Need-add-end
 add-end c = let a = c .before .before .before .before .before .before .before .before .before .before .before .args in let h : a .at + 1 ≤ length (a .text .now) = search (needs, factor-within) in omega arith
 
 add-end-2 : tie.Need-add-end-2
 add-end-2 c = let a = c .before .before .before .before .before .before .before .before .before .before .before .args in let h : a .at + 1 ≤ length (a .text .now) = search (needs, factor-within) in omega arith
 
-ends-at-requires : tie.Need-ends-at-requires
-ends-at-requires c κs = search needs
-
 add-judged : tie.Need-add-judged
 add-judged c = let a = c .before .before .before .before .before .before .before .before .before .before .before .before .before .args in let h : a .at + 1 ≤ length (a .text .now) = search (needs, factor-within) in omega arith
 
-judged-requires : tie.Need-judged-requires
-judged-requires c κs = search needs
-
 returns-2 : tie.Need-returns-2
 returns-2 c = search (needs, factor-value)
-
-enum-told : tie.Need-enum-told
-enum-told c = search needs
-
-enum-told-2 : tie.Need-enum-told-2
-enum-told-2 c = search needs
 
 returns-3 : tie.Need-returns-3
 returns-3 c = search (needs, factor-long)
@@ -65,25 +41,5 @@ returns-5 : tie.Need-returns-5
 returns-5 c = search (needs, factor-none)
 
 pub read-factor-spec : {M : Type 1} → statement M
-read-factor-spec =
-    tie.close
-    (tie.spec
-    digits-at-requires
-    enum-known-whole
-    add-is-at
-    is-at-requires
-    returns
-    add-digits-at
-    digits-at-requires-2
-    enum-known-n
-    add-end
-    add-end-2
-    ends-at-requires
-    add-judged
-    judged-requires
-    returns-2
-    enum-told
-    enum-told-2
-    returns-3
-    returns-4
-    returns-5)
+read-factor-spec = tie.close (tie.spec (search needs) (search needs) add-is-at (search needs) returns add-digits-at digits-at-requires-2 (search needs) add-end add-end-2
+    (search needs) add-judged (search needs) returns-2 (search needs) (search needs) returns-3 returns-4 returns-5)

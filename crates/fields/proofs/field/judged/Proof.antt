@@ -4,9 +4,6 @@ use borrow.Author.Needs.{needs}
 use Rattle.fields.proofs.field.judged.Statement.{statement}
 use Rattle.fields.proofs.field.judged.Tie as tie
 
-in-range-requires : tie.Need-in-range-requires
-in-range-requires c κs = search needs
-
 returns : tie.Need-returns
 unfolding judge
 returns c = rw (← c .before .in-range .ensures, c .if1 .taken)
@@ -16,4 +13,4 @@ unfolding judge
 returns-2 c = rw (← c .before .in-range .ensures, c .if1 .left)
 
 pub judged-spec : {M : Type 1} → statement M
-judged-spec = tie.close (tie.spec in-range-requires returns returns-2)
+judged-spec = tie.close (tie.spec (search needs) returns returns-2)

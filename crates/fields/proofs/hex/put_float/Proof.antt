@@ -15,26 +15,14 @@ abbrev μ-loop : tie.MeasureT-loop
 loop-holds : tie.Need-loop-holds Inv-loop μ-loop
 loop-holds c = left-start _ _ _ _ _
 
-sub-i : tie.Need-sub-i Inv-loop μ-loop
-sub-i c = omega arith
-
-byte-of-requires : tie.Need-byte-of-requires Inv-loop μ-loop
-byte-of-requires c κs = omega arith
-
 add-buf : tie.Need-add-buf Inv-loop μ-loop
 add-buf c = let w = c .before .before .loop .inv in omega arith
 
 slice-write-buf : tie.Need-slice-write-buf Inv-loop μ-loop
 slice-write-buf c = let w = c .before .before .loop .inv in omega arith
 
-loop-less : tie.Need-loop-less Inv-loop μ-loop
-loop-less c = omega arith
-
 loop-again : tie.Need-loop-again Inv-loop μ-loop
 loop-again c = let a = c .before .before .before .before .args in let l = c .before .before .loop in left-step 16 16 (a .n) (a .buf .now) (a .at) (l .buf) (l .i) (l .m) (l .inv) (c .before .loop-test .taken) _ (c .byte-of .ensures)
-
-add-result : tie.Need-add-result Inv-loop μ-loop
-add-result c = omega arith
 
 same-length : tie.Need-same-length Inv-loop μ-loop
 same-length c = let w = c .before .loop .inv in omega arith
@@ -43,18 +31,5 @@ returns : tie.Need-returns Inv-loop μ-loop
 returns c = let a = c .before .before .before .args in let l = c .before .loop in (refl, left-end 16 16 (a .n) (a .buf .now) (a .at) (l .buf) (a .at + l .i) (l .m) (l .inv) (omega (arith, c .loop-test .left)))
 
 pub put-float-spec : {M : Type 1} → statement M
-put-float-spec =
-    tie.close
-    (tie.spec
-    Inv-loop
-    μ-loop
-    loop-holds
-    sub-i
-    byte-of-requires
-    add-buf
-    slice-write-buf
-    loop-less
-    loop-again
-    add-result
-    same-length
-    returns)
+put-float-spec = tie.close (tie.spec Inv-loop μ-loop loop-holds (λ c. omega arith) (λ c κs. omega arith) add-buf slice-write-buf (λ c. omega arith) loop-again
+    (λ c. omega arith) same-length returns)

@@ -10,14 +10,8 @@ use Rattle.fields.proofs.hex.read_hex.Tie as tie
 digits-at-requires : tie.Need-digits-at-requires
 digits-at-requires c κs = (omega arith, omega arith, hex-room _ (omega arith))
 
-enum-known-n : tie.Need-enum-known-n
-enum-known-n c = search needs
-
 add-ends-at : tie.Need-add-ends-at
 add-ends-at c = let a = c .before .before .before .before .before .args in let h : a .at + a .k ≤ length (a .text .now) = search (needs, hex-within) in omega arith
-
-ends-at-requires : tie.Need-ends-at-requires
-ends-at-requires c κs = search needs
 
 add-judged : tie.Need-add-judged
 add-judged c = let a = c .before .before .before .before .before .before .before .args in let h : a .at + a .k ≤ length (a .text .now) = search (needs, hex-within) in omega arith
@@ -25,14 +19,8 @@ add-judged c = let a = c .before .before .before .before .before .before .before
 add-judged-2 : tie.Need-add-judged-2
 add-judged-2 c = let a = c .before .before .before .before .before .before .before .args in let h : a .at + a .k ≤ length (a .text .now) = search (needs, hex-within) in omega arith
 
-judged-requires : tie.Need-judged-requires
-judged-requires c κs = search needs
-
 returns : tie.Need-returns
 returns c = search (needs, hex-said)
-
-enum-told : tie.Need-enum-told
-enum-told c = search needs
 
 returns-2 : tie.Need-returns-2
 returns-2 c = search (needs, hex-more)
@@ -41,17 +29,5 @@ returns-3 : tie.Need-returns-3
 returns-3 c = search (needs, hex-wrong)
 
 pub read-hex-spec : {M : Type 1} → statement M
-read-hex-spec =
-    tie.close
-    (tie.spec
-    digits-at-requires
-    enum-known-n
-    add-ends-at
-    ends-at-requires
-    add-judged
-    add-judged-2
-    judged-requires
-    returns
-    enum-told
-    returns-2
+read-hex-spec = tie.close (tie.spec digits-at-requires (search needs) add-ends-at (search needs) add-judged add-judged-2 (search needs) returns (search needs) returns-2
     returns-3)

@@ -4,35 +4,17 @@ use borrow.Author.Needs.{needs}
 use Rattle.fields.proofs.quick.decimal_here.Statement.{statement}
 use Rattle.fields.proofs.quick.decimal_here.Tie as tie
 
-decimal-run-requires : tie.Need-decimal-run-requires
-decimal-run-requires c κs = search needs
-
 returns : tie.Need-returns
 returns c = here-empty _ _ _ _ _ _ (c .before .decimal-run .ensures) (c .if1 .taken)
 
 shared-slice-read-if2 : tie.Need-shared-slice-read-if2
 shared-slice-read-if2 c = here-open _ _ _ _ 0 0 (c .before .before .decimal-run .ensures) (c .before .if1 .left)
 
-add-if2 : tie.Need-add-if2
-add-if2 c = search needs
-
 returns-2 : tie.Need-returns-2
 returns-2 c = here-led _ _ _ _ _ _ (c .before .before .before .decimal-run .ensures) (c .before .before .if1 .left) (c .if2 .taken)
-
-judged-requires : tie.Need-judged-requires
-judged-requires c κs = search needs
 
 returns-3 : tie.Need-returns-3
 returns-3 c = here-decimal _ _ _ _ _ _ (c .before .before .before .before .decimal-run .ensures) (c .before .before .before .if1 .left) _ (c .before .if2 .left) (c .judged .ensures)
 
 pub decimal-here-spec : {M : Type 1} → statement M
-decimal-here-spec =
-    tie.close
-    (tie.spec
-    decimal-run-requires
-    returns
-    shared-slice-read-if2
-    add-if2
-    returns-2
-    judged-requires
-    returns-3)
+decimal-here-spec = tie.close (tie.spec (search needs) returns shared-slice-read-if2 (search needs) returns-2 (search needs) returns-3)

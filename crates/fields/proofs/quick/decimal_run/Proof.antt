@@ -14,17 +14,11 @@ Inv-loop text at stop n₀ i₀ n i = Running text at n i
 abbrev μ-loop : tie.MeasureT-loop
 μ-loop text at stop n₀ i₀ n i = stop - i
 
-near-requires : tie.Need-near-requires Inv-loop μ-loop
-near-requires c κs = search needs
-
 loop-holds : tie.Need-loop-holds Inv-loop μ-loop
 loop-holds c = run-start _ _ (c .before .before .pre)
 
 shared-slice-read-b : tie.Need-shared-slice-read-b Inv-loop μ-loop
 shared-slice-read-b c = let l = c .before .before .loop .inv in let m = c .before .before .before .near .ensures in omega arith
-
-is-digit-requires : tie.Need-is-digit-requires Inv-loop μ-loop
-is-digit-requires c κs = search needs
 
 returns : tie.Need-returns Inv-loop μ-loop
 returns c = run-stop _ _ _ _ (c .before .before .before .before .loop .inv) _ (c .before .before .before .before .before .near .ensures) (c .before .before .before .loop-test .taken) _ (c .before .is-digit .ensures) (c .if1 .taken)
@@ -44,9 +38,6 @@ add-n c = let g = run-fits _ _ _ _ (c .before .before .before .before .loop .inv
 add-i : tie.Need-add-i Inv-loop μ-loop
 add-i c = let m = c .before .before .before .before .before .near .ensures in omega arith
 
-loop-less : tie.Need-loop-less Inv-loop μ-loop
-loop-less c = omega arith
-
 loop-again : tie.Need-loop-again Inv-loop μ-loop
 loop-again c = run-again _ _ _ _ (c .before .before .before .before .loop .inv) _ (c .before .before .before .before .before .near .ensures) (c .before .before .before .loop-test .taken) _ (c .before .is-digit .ensures) (c .if1 .left) _ refl
 
@@ -54,21 +45,5 @@ returns-2 : tie.Need-returns-2 Inv-loop μ-loop
 returns-2 c = run-end _ _ _ _ (c .before .loop .inv) _ (c .before .before .near .ensures) (c .loop-test .left)
 
 pub decimal-run-spec : {M : Type 1} → statement M
-decimal-run-spec =
-    tie.close
-    (tie.spec
-    Inv-loop
-    μ-loop
-    near-requires
-    loop-holds
-    shared-slice-read-b
-    is-digit-requires
-    returns
-    mul-n
-    sub-n
-    cast-n
-    add-n
-    add-i
-    loop-less
-    loop-again
-    returns-2)
+decimal-run-spec = tie.close (tie.spec Inv-loop μ-loop (search needs) loop-holds shared-slice-read-b (search needs) returns mul-n sub-n cast-n add-n add-i
+    (λ c. omega arith) loop-again returns-2)

@@ -12,9 +12,6 @@ Inv-loop text at low high n₀ worst₀ i₀ n worst i = Sixteen text at n worst
 abbrev μ-loop : tie.MeasureT-loop
 μ-loop text at low high n₀ worst₀ i₀ n worst i = 16 - i
 
-sub-if1 : tie.Need-sub-if1 Inv-loop μ-loop
-sub-if1 c = omega arith
-
 returns : tie.Need-returns Inv-loop μ-loop
 returns c = let s = c .before .before in float-short _ _ _ _ (s .pre) (c .if1 .taken)
 
@@ -27,9 +24,6 @@ add-nibble c = let x = c .before .loop .inv in omega arith
 shared-slice-read-nibble : tie.Need-shared-slice-read-nibble Inv-loop μ-loop
 shared-slice-read-nibble c = let x = c .before .before .loop .inv in omega arith
 
-nibble-requires : tie.Need-nibble-requires Inv-loop μ-loop
-nibble-requires c κs = search needs
-
 mul-n : tie.Need-mul-n Inv-loop μ-loop
 mul-n c =
     let l = c .before .before .before .loop in
@@ -38,9 +32,6 @@ mul-n c =
     let f = sixteen-fits (l .i) (c .before .before .loop-test .taken) in
     omega arith
 
-cast-n : tie.Need-cast-n Inv-loop μ-loop
-cast-n c = omega arith
-
 add-n : tie.Need-add-n Inv-loop μ-loop
 add-n c =
     let l = c .before .before .before .loop in
@@ -48,15 +39,6 @@ add-n c =
     let g = sixteen-less _ _ _ _ _ (l .inv) (c .before .before .loop-test .taken) _ (c .nibble .ensures) in
     let f = sixteen-fits (l .i) (c .before .before .loop-test .taken) in
     omega arith
-
-larger-requires : tie.Need-larger-requires Inv-loop μ-loop
-larger-requires c κs = search needs
-
-add-i : tie.Need-add-i Inv-loop μ-loop
-add-i c = omega arith
-
-loop-less : tie.Need-loop-less Inv-loop μ-loop
-loop-less c = omega arith
 
 loop-again : tie.Need-loop-again Inv-loop μ-loop
 loop-again c = let l = c .before .before .before .before .loop in sixteen-more _ _ _ _ _ (l .inv) (c .before .before .before .loop-test .taken) _ (c .before .nibble .ensures) _ (c .larger .ensures)
@@ -67,32 +49,9 @@ returns-2 c = float-wrong _ _ _ _ _ _ _ (c .before .before .loop .inv) (c .befor
 add-judged : tie.Need-add-judged Inv-loop μ-loop
 add-judged c = let x = c .before .before .loop .inv in omega arith
 
-judged-requires : tie.Need-judged-requires Inv-loop μ-loop
-judged-requires c κs = search needs
-
 returns-3 : tie.Need-returns-3 Inv-loop μ-loop
 returns-3 c = float-said _ _ _ _ _ _ _ (c .before .before .before .loop .inv) (c .before .before .loop-test .left) (c .before .if2 .left) _ (c .judged .ensures)
 
 pub float-here-spec : {M : Type 1} → statement M
-float-here-spec =
-    tie.close
-    (tie.spec
-    Inv-loop
-    μ-loop
-    sub-if1
-    returns
-    loop-holds
-    add-nibble
-    shared-slice-read-nibble
-    nibble-requires
-    mul-n
-    cast-n
-    add-n
-    larger-requires
-    add-i
-    loop-less
-    loop-again
-    returns-2
-    add-judged
-    judged-requires
-    returns-3)
+float-here-spec = tie.close (tie.spec Inv-loop μ-loop (λ c. omega arith) returns loop-holds add-nibble shared-slice-read-nibble (search needs) mul-n (λ c. omega arith)
+    add-n (search needs) (λ c. omega arith) (λ c. omega arith) loop-again returns-2 add-judged (search needs) returns-3)

@@ -5,9 +5,6 @@ use borrow.Author.Needs.{needs}
 use Rattle.fields.proofs.quick.nibble.Statement.{statement}
 use Rattle.fields.proofs.quick.nibble.Tie as tie
 
-sub-result : tie.Need-sub-result
-sub-result c = search needs
-
 returns : tie.Need-returns
 returns c = digit-low _ (c .if2 .taken)
 
@@ -21,4 +18,4 @@ returns-4 : tie.Need-returns-4
 returns-4 c = nibble-letter _ (c .before .if1 .left) (c .if3 .left)
 
 pub nibble-spec : {M : Type 1} → statement M
-nibble-spec = tie.close (tie.spec sub-result returns returns-2 returns-3 returns-4)
+nibble-spec = tie.close (tie.spec (search needs) returns returns-2 returns-3 returns-4)

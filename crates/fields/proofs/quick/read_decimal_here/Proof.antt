@@ -7,11 +7,5 @@ use Rattle.fields.proofs.quick.read_decimal_here.Tie as tie
 returns : tie.Need-returns
 returns c = here-past _ _ _ _ _ (c .if1 .taken)
 
-decimal-here-requires : tie.Need-decimal-here-requires
-decimal-here-requires c κs = search needs
-
-returns-2 : tie.Need-returns-2
-returns-2 c = search needs
-
 pub read-decimal-here-spec : {M : Type 1} → statement M
-read-decimal-here-spec = tie.close (tie.spec returns decimal-here-requires returns-2)
+read-decimal-here-spec = tie.close (tie.spec returns (search needs) (λ c. search needs))

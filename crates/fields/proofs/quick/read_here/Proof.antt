@@ -7,27 +7,6 @@ use Rattle.fields.proofs.quick.read_here.Tie as tie
 returns : tie.Need-returns
 returns c = here-past _ _ _ _ _ (c .if1 .taken)
 
-enum-told : tie.Need-enum-told
-enum-told c = search needs
-
-decimal-here-requires : tie.Need-decimal-here-requires
-decimal-here-requires c κs = search needs
-
-enum-told-2 : tie.Need-enum-told-2
-enum-told-2 c = search needs
-
-mask-here-requires : tie.Need-mask-here-requires
-mask-here-requires c κs = search needs
-
-enum-told-3 : tie.Need-enum-told-3
-enum-told-3 c = search needs
-
-float-here-requires : tie.Need-float-here-requires
-float-here-requires c κs = search needs
-
-enum-told-4 : tie.Need-enum-told-4
-enum-told-4 c = search needs
-
 returns-2 : tie.Need-returns-2
 returns-2 c = here-same _ _ _ _ _ _ _ (c .before .enum-told .given .1) (c .decimal-here .ensures)
 
@@ -41,18 +20,5 @@ returns-5 : tie.Need-returns-5
 returns-5 c = here-factor _ _ _ _ _ (c .enum-told4 .given .1)
 
 pub read-here-spec : {M : Type 1} → statement M
-read-here-spec =
-    tie.close
-    (tie.spec
-    returns
-    enum-told
-    decimal-here-requires
-    enum-told-2
-    mask-here-requires
-    enum-told-3
-    float-here-requires
-    enum-told-4
-    returns-2
-    returns-3
-    returns-4
-    returns-5)
+read-here-spec = tie.close (tie.spec returns (search needs) (search needs) (search needs) (search needs) (search needs) (search needs) (search needs) returns-2 returns-3
+    returns-4 returns-5)

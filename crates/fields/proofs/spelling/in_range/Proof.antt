@@ -4,12 +4,9 @@ use borrow.Author.Needs.{needs}
 use Rattle.fields.proofs.spelling.in_range.Statement.{statement}
 use Rattle.fields.proofs.spelling.in_range.Tie as tie
 
-limit-requires : tie.Need-limit-requires
-limit-requires c κs = search needs
-
 returns : tie.Need-returns
 unfolding fits
 returns c = cc
 
 pub in-range-spec : {M : Type 1} → statement M
-in-range-spec = tie.close (tie.spec limit-requires returns)
+in-range-spec = tie.close (tie.spec (search needs) returns)

@@ -7,11 +7,8 @@ use Rattle.fields.proofs.text.is_at.Tie as tie
 returns : tie.Need-returns
 returns c = starts-none _ _ _ (c .if1 .taken)
 
-shared-slice-read-result : tie.Need-shared-slice-read-result
-shared-slice-read-result c = search needs
-
 returns-2 : tie.Need-returns-2
 returns-2 c = starts-some _ _ _ (c .before .if1 .left)
 
 pub is-at-spec : {M : Type 1} → statement M
-is-at-spec = tie.close (tie.spec returns shared-slice-read-result returns-2)
+is-at-spec = tie.close (tie.spec returns (search needs) returns-2)

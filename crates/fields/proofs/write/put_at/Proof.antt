@@ -5,35 +5,17 @@ use borrow.Author.Needs.{needs}
 use Rattle.fields.proofs.write.put_at.Statement.{statement}
 use Rattle.fields.proofs.write.put_at.Tie as tie
 
-limit-requires : tie.Need-limit-requires
-limit-requires c κs = search needs
-
 returns : tie.Need-returns
 returns c = put-nothing _ _ _ (search (needs, over-limit))
-
-width-requires : tie.Need-width-requires
-width-requires c κs = search needs
-
-has-room-requires : tie.Need-has-room-requires
-has-room-requires c κs = search needs
 
 returns-2 : tie.Need-returns-2
 returns-2 c = let a = c .before .before .before .before .before .before .args in put-refused (a .buf .now) (a .at) _ _ _ (c .before .has-room .ensures) (c .before .before .width .ensures) (c .if2 .taken)
 
-enum-told : tie.Need-enum-told
-enum-told c = search needs
-
 put-decimal-requires : tie.Need-put-decimal-requires
 put-decimal-requires c κs = search (needs, room-here)
 
-enum-told-2 : tie.Need-enum-told-2
-enum-told-2 c = search needs
-
 put-hex-requires : tie.Need-put-hex-requires
 put-hex-requires c κs = search (needs, room-here)
-
-enum-told-3 : tie.Need-enum-told-3
-enum-told-3 c = search needs
 
 put-float-requires : tie.Need-put-float-requires
 put-float-requires c κs =
@@ -42,15 +24,6 @@ put-float-requires c κs =
     (c .before .before .before .before .before .width .ensures) (c .before .enum-told3 .given .1) _ (a .at) (a .buf .now) (c .before .before .before .before .has-room .ensures)
     (c .before .before .before .if2 .left)
 
-enum-told-4 : tie.Need-enum-told-4
-enum-told-4 c = search needs
-
-put-factor-requires : tie.Need-put-factor-requires
-put-factor-requires c κs = search needs
-
-same-length : tie.Need-same-length
-same-length c = search needs
-
 returns-3 : tie.Need-returns-3
 returns-3 c = let a = c .before .before .before .before .before .before .before .before .before .before .before .before .args in
     let w = c .before .before .before .before .before .before .before .before .width .ensures in
@@ -58,18 +31,12 @@ returns-3 c = let a = c .before .before .before .before .before .before .before 
     (digits-decimal (a .spelling) (a .n) _ (c .before .before .before .before .before .before .before .before .before .before .limit .ensures) (c .before .before .before .before .before .before .before .before .before .if1 .left) _ w (c .before .before .before .before .enum-told .given .1))
     (c .before .before .put-decimal .ensures .0) (c .before .before .put-decimal .ensures .1)
 
-same-length-2 : tie.Need-same-length-2
-same-length-2 c = search needs
-
 returns-4 : tie.Need-returns-4
 returns-4 c = let a = c .before .before .before .before .before .before .before .before .before .before .before .before .args in
     let w = c .before .before .before .before .before .before .before .before .width .ensures in
     put-digits (a .spelling) (a .n) _ (a .buf .now) _ _ (a .at) _ _ (c .before .before .before .before .before .before .before .has-room .ensures) (c .before .before .before .before .before .before .if2 .left) w
     (digits-hex4 (a .spelling) (a .n) _ (c .before .before .before .before .before .before .before .before .before .before .limit .ensures) (c .before .before .before .before .before .before .before .before .before .if1 .left) _ w (c .before .before .before .before .enum-told2 .given .1))
     (c .before .before .put-hex .ensures .0) (c .before .before .put-hex .ensures .1)
-
-same-length-3 : tie.Need-same-length-3
-same-length-3 c = search needs
 
 returns-5 : tie.Need-returns-5
 returns-5 c =
@@ -79,34 +46,9 @@ returns-5 c =
     (c .before .before .before .before .enum-told3 .given .1) _ (a .at) (a .buf .now) (c .before .before .before .before .before .before .before .has-room .ensures)
     (c .before .before .before .before .before .before .if2 .left) _ _ (c .before .before .put-float .ensures .0) (c .before .before .put-float .ensures .1)
 
-same-length-4 : tie.Need-same-length-4
-same-length-4 c = search needs
-
 returns-6 : tie.Need-returns-6
 returns-6 c = let a = c .before .before .before .before .before .before .before .before .before .before .before .before .args in put-same (a .spelling) Factor (a .n) (a .buf .now) _ (a .at) _ (c .before .before .before .before .enum-told4 .given .1) (c .before .before .put-factor .ensures)
 
 pub put-at-spec : {M : Type 1} → statement M
-put-at-spec =
-    tie.close
-    (tie.spec
-    limit-requires
-    returns
-    width-requires
-    has-room-requires
-    returns-2
-    enum-told
-    put-decimal-requires
-    enum-told-2
-    put-hex-requires
-    enum-told-3
-    put-float-requires
-    enum-told-4
-    put-factor-requires
-    same-length
-    returns-3
-    same-length-2
-    returns-4
-    same-length-3
-    returns-5
-    same-length-4
-    returns-6)
+put-at-spec = tie.close (tie.spec (search needs) returns (search needs) (search needs) returns-2 (search needs) put-decimal-requires (search needs) put-hex-requires
+    (search needs) put-float-requires (search needs) (search needs) (search needs) returns-3 (search needs) returns-4 (search needs) returns-5 (search needs) returns-6)

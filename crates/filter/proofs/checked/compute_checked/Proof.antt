@@ -27,12 +27,6 @@ module _ (label : RoundLabel) (base : StateLabel) (state : List Estimate) (s : N
   out-of-range : fit ≡ false → _≡_ {A = Checked} (record { verdict = Refused Range; computed = record { state = state; targets = replicate 16 nought } }) (checked label base state s chosen readings)
   out-of-range h = sym (checked-out label base state s chosen readings (sym e ∙ h))
 
-computing-in-range-requires : tie.Need-computing-in-range-requires
-computing-in-range-requires c κs = search needs
-
-compute-requires : tie.Need-compute-requires
-compute-requires c κs = search needs
-
 returns : tie.Need-returns
 returns c =
     let a = c .before .before .before .args in
@@ -44,5 +38,4 @@ returns-2 c =
     out-of-range (a .label) (a .base) (a .state) (a .numbers) (a .chosen) (a .readings) _ (c .before .computing-in-range .ensures) (c .if1 .left)
 
 pub compute-checked-spec : {M : Type 1} → statement M
-compute-checked-spec =
-    tie.close (tie.spec computing-in-range-requires compute-requires returns returns-2)
+compute-checked-spec = tie.close (tie.spec (search needs) (search needs) returns returns-2)

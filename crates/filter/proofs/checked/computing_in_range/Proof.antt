@@ -22,21 +22,6 @@ made : (label : RoundLabel) (base : StateLabel) (state : List Estimate) (s : Num
 unfolding computingFits
 made label base state s chosen readings a b d e f A B D E F = cc
 
-in-range-requires : tie.Need-in-range-requires
-in-range-requires c κs = search needs
-
-state-in-range-requires : tie.Need-state-in-range-requires
-state-in-range-requires c κs = search needs
-
-before-requires : tie.Need-before-requires
-before-requires c κs = search needs
-
-mask-in-range-requires : tie.Need-mask-in-range-requires
-mask-in-range-requires c κs = search needs
-
-readings-in-range-requires : tie.Need-readings-in-range-requires
-readings-in-range-requires c κs = search needs
-
 returns : tie.Need-returns
 returns c =
     let station = c .before .before .before in
@@ -45,12 +30,4 @@ returns c =
     (c .before .before .before2 .ensures) (c .before .mask-in-range .ensures) (c .readings-in-range .ensures)
 
 pub computing-in-range-spec : {M : Type 1} → statement M
-computing-in-range-spec =
-    tie.close
-    (tie.spec
-    in-range-requires
-    state-in-range-requires
-    before-requires
-    mask-in-range-requires
-    readings-in-range-requires
-    returns)
+computing-in-range-spec = tie.close (tie.spec (search needs) (search needs) (search needs) (search needs) (search needs) returns)

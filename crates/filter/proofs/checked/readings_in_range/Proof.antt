@@ -20,21 +20,6 @@ loop-holds : tie.Need-loop-holds Inv-loop μ-loop
 unfolding every
 loop-holds c = (omega arith, refl)
 
-mul-reading-place : tie.Need-mul-reading-place Inv-loop μ-loop
-mul-reading-place c = search needs
-
-array-read-reading-place : tie.Need-array-read-reading-place Inv-loop μ-loop
-array-read-reading-place c = search needs
-
-reading-place-requires : tie.Need-reading-place-requires Inv-loop μ-loop
-reading-place-requires c κs = search needs
-
-add-i : tie.Need-add-i Inv-loop μ-loop
-add-i c = search needs
-
-loop-less : tie.Need-loop-less Inv-loop μ-loop
-loop-less c = search needs
-
 loop-again : tie.Need-loop-again Inv-loop μ-loop
 loop-again c = (omega arith, every-more (readingAt (c .before .before .before .args .m) (c .before .before .before .args .t2)) _ _ _ (c .before .before .loop .inv .1) (c .reading-place .ensures))
 
@@ -43,16 +28,4 @@ unfolding readingsFit
 returns c = every-end (readingAt (c .before .before .args .m) (c .before .before .args .t2)) _ (c .before .loop .i) (c .before .loop .inv .1) (c .before .loop .inv .0) (c .loop-test .left)
 
 pub readings-in-range-spec : {M : Type 1} → statement M
-readings-in-range-spec =
-    tie.close
-    (tie.spec
-    Inv-loop
-    μ-loop
-    loop-holds
-    mul-reading-place
-    array-read-reading-place
-    reading-place-requires
-    add-i
-    loop-less
-    loop-again
-    returns)
+readings-in-range-spec = tie.close (tie.spec Inv-loop μ-loop loop-holds (search needs) (search needs) (search needs) (search needs) (search needs) loop-again returns)

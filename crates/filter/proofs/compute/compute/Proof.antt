@@ -5,14 +5,8 @@ use borrow.Author.Needs.{needs}
 use Rattle.filter.proofs.compute.compute.Statement.{statement}
 use Rattle.filter.proofs.compute.compute.Tie as tie
 
-state-after-requires : tie.Need-state-after-requires
-state-after-requires c κs = search needs
-
-targets-from-requires : tie.Need-targets-from-requires
-targets-from-requires c κs = search needs
-
 returns : tie.Need-returns
 returns c = let a = c .before .before .args in let e = c .before .state-after .ensures in let t = c .targets-from .ensures ∙ ap (setPoints (a .numbers)) e in λ i. record { state = e i; targets = t i }
 
 pub compute-spec : {M : Type 1} → statement M
-compute-spec = tie.close (tie.spec state-after-requires targets-from-requires returns)
+compute-spec = tie.close (tie.spec (search needs) (search needs) returns)

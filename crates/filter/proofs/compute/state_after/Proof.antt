@@ -7,15 +7,9 @@ use borrow.Author.Needs.{needs}
 use Rattle.filter.proofs.compute.state_after.Statement.{statement}
 use Rattle.filter.proofs.compute.state_after.Tie as tie
 
-since-requires : tie.Need-since-requires
-since-requires c κs = search needs
-
-runs-after-requires : tie.Need-runs-after-requires
-runs-after-requires c κs = search needs
-
 returns : tie.Need-returns
 unfolding newState
 returns c = let a = c .before .before .args in c .runs-after .ensures ∙ ap (λ (n : ℕ). runsAfter (a .state) n (a .numbers) (a .chosen) (a .readings)) (c .before .since .ensures)
 
 pub state-after-spec : {M : Type 1} → statement M
-state-after-spec = tie.close (tie.spec since-requires runs-after-requires returns)
+state-after-spec = tie.close (tie.spec (search needs) (search needs) returns)

@@ -7,15 +7,9 @@ use borrow.Author.Needs.{needs}
 use Rattle.filter.proofs.compute.targets_from.Statement.{statement}
 use Rattle.filter.proofs.compute.targets_from.Tie as tie
 
-total-of-requires : tie.Need-total-of-requires
-total-of-requires c κs = search needs
-
-targets-of-requires : tie.Need-targets-of-requires
-targets-of-requires c κs = search needs
-
 returns : tie.Need-returns
 unfolding setPoints
 returns c = c .targets-of .ensures ∙ ap (λ (t : Float). targets t (c .before .before .args .numbers)) (c .before .total-of .ensures)
 
 pub targets-from-spec : {M : Type 1} → statement M
-targets-from-spec = tie.close (tie.spec total-of-requires targets-of-requires returns)
+targets-from-spec = tie.close (tie.spec (search needs) (search needs) returns)

@@ -15,11 +15,5 @@ below k {a} {b} ha hb =
 mul-nearest-u64-to-f64 : tie.Need-mul-nearest-u64-to-f64
 mul-nearest-u64-to-f64 c = record { fits = below 32 (search needs) (search needs) }
 
-nearest-u64-to-f64-requires : tie.Need-nearest-u64-to-f64-requires
-nearest-u64-to-f64-requires c κs = search needs
-
-returns : tie.Need-returns
-returns c = search needs
-
 pub product-spec : {M : Type 1} → statement M
-product-spec = tie.close (tie.spec mul-nearest-u64-to-f64 nearest-u64-to-f64-requires returns)
+product-spec = tie.close (tie.spec mul-nearest-u64-to-f64 (search needs) (λ c. search needs))

@@ -5,12 +5,6 @@ use borrow.Author.Needs.{needs}
 use Rattle.filter.proofs.run.estimate_after.Statement.{statement}
 use Rattle.filter.proofs.run.estimate_after.Tie as tie
 
-enum-known-o : tie.Need-enum-known-o
-enum-known-o c = search needs
-
-enum-known-o-2 : tie.Need-enum-known-o-2
-enum-known-o-2 c = search needs
-
 returns : tie.Need-returns
 returns c = sym (ap (estimateAfter (c .before .before .before .args .e)) (c .before .o .given .1))
 
@@ -18,4 +12,4 @@ returns-2 : tie.Need-returns-2
 returns-2 c = sym (ap (estimateAfter (c .before .before .before .args .e)) (c .before .o2 .given .1))
 
 pub estimate-after-spec : {M : Type 1} → statement M
-estimate-after-spec = tie.close (tie.spec enum-known-o enum-known-o-2 returns returns-2)
+estimate-after-spec = tie.close (tie.spec (search needs) (search needs) returns returns-2)

@@ -4,12 +4,9 @@ use borrow.Author.Needs.{needs}
 use Rattle.filter.proofs.run.gain_of.Statement.{statement}
 use Rattle.filter.proofs.run.gain_of.Tie as tie
 
-int-to-float-result : tie.Need-int-to-float-result
-int-to-float-result c = search needs
-
 returns : tie.Need-returns
 unfolding gain
 returns c = search needs
 
 pub gain-of-spec : {M : Type 1} → statement M
-gain-of-spec = tie.close (tie.spec int-to-float-result returns)
+gain-of-spec = tie.close (tie.spec (search needs) returns)

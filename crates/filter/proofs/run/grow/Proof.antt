@@ -7,15 +7,9 @@ use borrow.Author.Needs.{needs}
 use Rattle.filter.proofs.run.grow.Statement.{statement}
 use Rattle.filter.proofs.run.grow.Tie as tie
 
-product-requires : tie.Need-product-requires
-product-requires c κs = search needs
-
-at-most-requires : tie.Need-at-most-requires
-at-most-requires c κs = search needs
-
 returns : tie.Need-returns
 unfolding grown
 returns c = c .at-most .ensures ∙ ap₂ (λ (t w : Float). atMost t (add binary64 (c .before .before .args .p) w)) variance-top (c .before .product .ensures)
 
 pub grow-spec : {M : Type 1} → statement M
-grow-spec = tie.close (tie.spec product-requires at-most-requires returns)
+grow-spec = tie.close (tie.spec (search needs) (search needs) returns)

@@ -8,15 +8,9 @@ use borrow.Author.Needs.{needs}
 use Rattle.filter.proofs.run.measure.Statement.{statement}
 use Rattle.filter.proofs.run.measure.Tie as tie
 
-product-requires : tie.Need-product-requires
-product-requires c κs = search needs
-
-int-to-float-result : tie.Need-int-to-float-result
-int-to-float-result c = search needs
-
 returns : tie.Need-returns
 unfolding measured
 returns c = ap (λ (w : Float). div binary64 w (ofWhole factorScale)) (c .product .ensures)
 
 pub measure-spec : {M : Type 1} → statement M
-measure-spec = tie.close (tie.spec product-requires int-to-float-result returns)
+measure-spec = tie.close (tie.spec (search needs) (search needs) returns)

@@ -7,9 +7,6 @@ use borrow.Author.Needs.{needs}
 use Rattle.filter.proofs.run.move_by.Statement.{statement}
 use Rattle.filter.proofs.run.move_by.Tie as tie
 
-limit-requires : tie.Need-limit-requires
-limit-requires c κs = search needs
-
 returns : tie.Need-returns
 unfolding moved
 returns c =
@@ -17,4 +14,4 @@ returns c =
     c .limit .ensures ∙ ap (λ (t : Float). limited t (add binary64 (a .x) (mul binary64 (a .k) (sub binary64 (a .z) (a .x))))) x-top
 
 pub move-by-spec : {M : Type 1} → statement M
-move-by-spec = tie.close (tie.spec limit-requires returns)
+move-by-spec = tie.close (tie.spec (search needs) returns)

@@ -22,24 +22,6 @@ module _ (e : Estimate) (n q r raw factor : ℕ) (p1 x p : Float) (g : p1 ≡ gr
   unfolding outcome
   predicted top H P = cc
 
-grow-requires : tie.Need-grow-requires
-grow-requires c κs = search needs
-
-measure-requires : tie.Need-measure-requires
-measure-requires c κs = search needs
-
-gain-of-requires : tie.Need-gain-of-requires
-gain-of-requires c κs = search needs
-
-move-by-requires : tie.Need-move-by-requires
-move-by-requires c κs = search needs
-
-shrink-requires : tie.Need-shrink-requires
-shrink-requires c κs = search needs
-
-limit-requires : tie.Need-limit-requires
-limit-requires c κs = search needs
-
 returns : tie.Need-returns
 returns c =
     let gained = c .before .before in
@@ -55,14 +37,4 @@ returns-2 c =
     ∙ ap (λ (b : Bool). outcome (a .e) (a .n) (a .q) (a .r) b (a .raw) (a .factor)) (sym (c .before .if1 .left))
 
 pub run-spec : {M : Type 1} → statement M
-run-spec =
-    tie.close
-    (tie.spec
-    grow-requires
-    measure-requires
-    gain-of-requires
-    move-by-requires
-    shrink-requires
-    limit-requires
-    returns
-    returns-2)
+run-spec = tie.close (tie.spec (search needs) (search needs) (search needs) (search needs) (search needs) (search needs) returns returns-2)

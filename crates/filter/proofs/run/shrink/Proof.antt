@@ -8,12 +8,9 @@ use borrow.Author.Needs.{needs}
 use Rattle.filter.proofs.run.shrink.Statement.{statement}
 use Rattle.filter.proofs.run.shrink.Tie as tie
 
-limit-requires : tie.Need-limit-requires
-limit-requires c κs = search needs
-
 returns : tie.Need-returns
 unfolding shrunk
 returns c = c .limit .ensures ∙ ap₂ (λ (t one : Float). limited t (mul binary64 (sub binary64 one (c .before .args .k)) (c .before .args .p1))) variance-top one-is
 
 pub shrink-spec : {M : Type 1} → statement M
-shrink-spec = tie.close (tie.spec limit-requires returns)
+shrink-spec = tie.close (tie.spec (search needs) returns)

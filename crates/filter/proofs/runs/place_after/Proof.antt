@@ -19,12 +19,6 @@ module _ (e : Estimate) (n q r : ℕ) (chosen : Bool) (raw factor : ℕ) (used :
   unfolding place
   no-run u = ap (λ (b : Bool). place b e n q r chosen raw factor) (sym u)
 
-run-requires : tie.Need-run-requires
-run-requires c κs = search needs
-
-estimate-after-requires : tie.Need-estimate-after-requires
-estimate-after-requires c κs = search needs
-
 returns : tie.Need-returns
 returns c =
     let a = c .before .before .before .args in
@@ -36,4 +30,4 @@ returns-2 c =
     no-run (a .e) (a .n) (a .q) (a .r) (a .chosen) (a .raw) (a .factor) (a .used) (c .if1 .left)
 
 pub place-after-spec : {M : Type 1} → statement M
-place-after-spec = tie.close (tie.spec run-requires estimate-after-requires returns returns-2)
+place-after-spec = tie.close (tie.spec (search needs) (search needs) returns returns-2)

@@ -33,42 +33,6 @@ abbrev μ-loop : tie.MeasureT-loop
 loop-holds : tie.Need-loop-holds Inv-loop μ-loop
 loop-holds c = (search needs, fill-none _ noEstimate 16 (c .args .state) (c .good .0 .1 .0 .1))
 
-has-requires : tie.Need-has-requires Inv-loop μ-loop
-has-requires c κs = search needs
-
-mul-raw : tie.Need-mul-raw Inv-loop μ-loop
-mul-raw c = search needs
-
-array-read-raw : tie.Need-array-read-raw Inv-loop μ-loop
-array-read-raw c = search needs
-
-mul-factor : tie.Need-mul-factor Inv-loop μ-loop
-mul-factor c = search needs
-
-element-copy-out-factor : tie.Need-element-copy-out-factor Inv-loop μ-loop
-element-copy-out-factor c = search needs
-
-mul-place-after : tie.Need-mul-place-after Inv-loop μ-loop
-mul-place-after c = search needs
-
-array-copy-out-place-after : tie.Need-array-copy-out-place-after Inv-loop μ-loop
-array-copy-out-place-after c = search needs
-
-place-after-requires : tie.Need-place-after-requires Inv-loop μ-loop
-place-after-requires c κs = search needs
-
-mul-next : tie.Need-mul-next Inv-loop μ-loop
-mul-next c = search needs
-
-array-set-from-next : tie.Need-array-set-from-next Inv-loop μ-loop
-array-set-from-next c = search needs
-
-add-i : tie.Need-add-i Inv-loop μ-loop
-add-i c = search needs
-
-loop-less : tie.Need-loop-less Inv-loop μ-loop
-loop-less c = search needs
-
 loop-again : tie.Need-loop-again Inv-loop μ-loop
 loop-again c =
     let in-loop = c .before .before .before .before in
@@ -84,23 +48,5 @@ unfolding runsAfter
 returns c = fill-done _ noEstimate 16 (c .before .before .args .state) (c .before .loop .next) (c .before .loop .i) (c .before .loop .inv .1) (c .loop-test .left)
 
 pub runs-after-spec : {M : Type 1} → statement M
-runs-after-spec =
-    tie.close
-    (tie.spec
-    Inv-loop
-    μ-loop
-    loop-holds
-    has-requires
-    mul-raw
-    array-read-raw
-    mul-factor
-    element-copy-out-factor
-    mul-place-after
-    array-copy-out-place-after
-    place-after-requires
-    mul-next
-    array-set-from-next
-    add-i
-    loop-less
-    loop-again
-    returns)
+runs-after-spec = tie.close (tie.spec Inv-loop μ-loop loop-holds (search needs) (search needs) (search needs) (search needs) (search needs) (search needs) (search needs)
+    (search needs) (search needs) (search needs) (search needs) (search needs) loop-again returns)

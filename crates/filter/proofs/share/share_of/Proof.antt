@@ -6,9 +6,6 @@ use borrow.Author.Needs.{needs}
 use Rattle.filter.proofs.share.share_of.Statement.{statement}
 use Rattle.filter.proofs.share.share_of.Tie as tie
 
-target-of-requires : tie.Need-target-of-requires
-target-of-requires c κs = search needs
-
 returns : tie.Need-returns
 unfolding share
 returns c = c .target-of .ensures ∙ ap (λ (b : Bool). share b (c .before .before .args .total) (c .before .before .args .weight) (c .before .before .args .sum)) (sym (c .before .if1 .taken))
@@ -18,4 +15,4 @@ unfolding share
 returns-2 c = ap (λ (b : Bool). share b (c .before .args .total) (c .before .args .weight) (c .before .args .sum)) (sym (c .if1 .left))
 
 pub share-of-spec : {M : Type 1} → statement M
-share-of-spec = tie.close (tie.spec target-of-requires returns returns-2)
+share-of-spec = tie.close (tie.spec (search needs) returns returns-2)

@@ -8,15 +8,6 @@ use borrow.Author.Needs.{needs}
 use Rattle.filter.proofs.share.target_of.Statement.{statement}
 use Rattle.filter.proofs.share.target_of.Tie as tie
 
-int-to-float-at-most : tie.Need-int-to-float-at-most
-int-to-float-at-most c = search needs
-
-nearest-u64-to-f64-requires : tie.Need-nearest-u64-to-f64-requires
-nearest-u64-to-f64-requires c κs = search needs
-
-at-most-requires : tie.Need-at-most-requires
-at-most-requires c κs = search needs
-
 returns : tie.Need-returns
 unfolding target
 returns c =
@@ -24,5 +15,4 @@ returns c =
     c .at-most .ensures ∙ ap (λ (d : Float). atMost (a .total) (div binary64 (mul binary64 (a .total) (ofWhole (a .weight))) d)) (c .before .nearest-u64-to-f64 .ensures)
 
 pub target-of-spec : {M : Type 1} → statement M
-target-of-spec =
-    tie.close (tie.spec int-to-float-at-most nearest-u64-to-f64-requires at-most-requires returns)
+target-of-spec = tie.close (tie.spec (search needs) (search needs) (search needs) returns)

@@ -23,32 +23,8 @@ Inv-loop total m weights sum given₀ i₀ given i = (i ≤ 16) × Filled (share
 abbrev μ-loop : tie.MeasureT-loop
 μ-loop total m weights sum given₀ i₀ given i = 16 - i
 
-weight-sum-requires : tie.Need-weight-sum-requires Inv-loop μ-loop
-weight-sum-requires c κs = search needs
-
 loop-holds : tie.Need-loop-holds Inv-loop μ-loop
 loop-holds c = (search needs, fill-none _ nan 16 noughts refl)
-
-mul-share-of : tie.Need-mul-share-of Inv-loop μ-loop
-mul-share-of c = search needs
-
-array-read-share-of : tie.Need-array-read-share-of Inv-loop μ-loop
-array-read-share-of c = search needs
-
-share-of-requires : tie.Need-share-of-requires Inv-loop μ-loop
-share-of-requires c κs = search needs
-
-mul-given : tie.Need-mul-given Inv-loop μ-loop
-mul-given c = search needs
-
-array-write-given : tie.Need-array-write-given Inv-loop μ-loop
-array-write-given c = search needs
-
-add-i : tie.Need-add-i Inv-loop μ-loop
-add-i c = search needs
-
-loop-less : tie.Need-loop-less Inv-loop μ-loop
-loop-less c = search needs
 
 loop-again : tie.Need-loop-again Inv-loop μ-loop
 loop-again c =
@@ -66,19 +42,5 @@ returns c =
     ∙ ap (λ (sum : ℕ). tab (shared (a .total) (a .numbers .group .m) (a .numbers .weights) sum) 0 16) (start .weight-sum .ensures)
 
 pub targets-of-spec : {M : Type 1} → statement M
-targets-of-spec =
-    tie.close
-    (tie.spec
-    Inv-loop
-    μ-loop
-    weight-sum-requires
-    loop-holds
-    mul-share-of
-    array-read-share-of
-    share-of-requires
-    mul-given
-    array-write-given
-    add-i
-    loop-less
-    loop-again
-    returns)
+targets-of-spec = tie.close (tie.spec Inv-loop μ-loop (search needs) loop-holds (search needs) (search needs) (search needs) (search needs) (search needs) (search needs)
+    (search needs) loop-again returns)

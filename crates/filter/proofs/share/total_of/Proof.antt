@@ -27,18 +27,6 @@ returns : tie.Need-returns Inv-loop μ-loop
 unfolding total
 returns c = c .before .before .loop .inv .2 ∙ ap (λ (k : ℕ). addAll nought (take k (c .before .before .before .args .t2))) (le-antisymm (c .before .before .loop .inv .1) (c .if1 .taken))
 
-mul-e : tie.Need-mul-e Inv-loop μ-loop
-mul-e c = search needs
-
-array-copy-out-e : tie.Need-array-copy-out-e Inv-loop μ-loop
-array-copy-out-e c = search needs
-
-add-i : tie.Need-add-i Inv-loop μ-loop
-add-i c = search needs
-
-loop-less : tie.Need-loop-less Inv-loop μ-loop
-loop-less c = search needs
-
 loop-again : tie.Need-loop-again Inv-loop μ-loop
 loop-again c =
     let l = c .before .before .before .before .loop in
@@ -51,16 +39,4 @@ unfolding total
 returns-2 c = c .before .loop .inv .2 ∙ ap (addAll nought) (took (c .before .before .args .t2) 16 (c .before .loop .i) (c .before .before .args .m) (c .before .before .good .1 .0 .1 .0 .1) (c .loop-test .left) (c .before .loop .inv .1))
 
 pub total-of-spec : {M : Type 1} → statement M
-total-of-spec =
-    tie.close
-    (tie.spec
-    Inv-loop
-    μ-loop
-    loop-holds
-    returns
-    mul-e
-    array-copy-out-e
-    add-i
-    loop-less
-    loop-again
-    returns-2)
+total-of-spec = tie.close (tie.spec Inv-loop μ-loop loop-holds returns (search needs) (search needs) (search needs) (search needs) loop-again returns-2)

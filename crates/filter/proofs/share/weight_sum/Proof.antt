@@ -24,23 +24,8 @@ returns : tie.Need-returns Inv-loop μ-loop
 unfolding weightSum
 returns c = c .before .before .loop .inv .2 ∙ ap (λ (k : ℕ). sumOf (take k (c .before .before .before .args .t2))) (le-antisymm (c .before .before .loop .inv .1) (c .if1 .taken))
 
-mul-wide : tie.Need-mul-wide Inv-loop μ-loop
-mul-wide c = search needs
-
-array-read-wide : tie.Need-array-read-wide Inv-loop μ-loop
-array-read-wide c = search needs
-
-wide-requires : tie.Need-wide-requires Inv-loop μ-loop
-wide-requires c κs = search needs
-
 add-sum : tie.Need-add-sum Inv-loop μ-loop
 add-sum c = omega (arith, c .wide .ensures .1)
-
-add-i : tie.Need-add-i Inv-loop μ-loop
-add-i c = search needs
-
-loop-less : tie.Need-loop-less Inv-loop μ-loop
-loop-less c = search needs
 
 loop-again : tie.Need-loop-again Inv-loop μ-loop
 loop-again c =
@@ -54,18 +39,5 @@ unfolding weightSum
 returns-2 c = c .before .loop .inv .2 ∙ ap sumOf (took (c .before .before .args .t2) 16 (c .before .loop .i) (c .before .before .args .m) (c .before .before .good .1 .0 .1 .0 .1) (c .loop-test .left) (c .before .loop .inv .1))
 
 pub weight-sum-spec : {M : Type 1} → statement M
-weight-sum-spec =
-    tie.close
-    (tie.spec
-    Inv-loop
-    μ-loop
-    loop-holds
-    returns
-    mul-wide
-    array-read-wide
-    wide-requires
-    add-sum
-    add-i
-    loop-less
-    loop-again
+weight-sum-spec = tie.close (tie.spec Inv-loop μ-loop loop-holds returns (search needs) (search needs) (search needs) add-sum (search needs) (search needs) loop-again
     returns-2)

@@ -4,16 +4,9 @@ use borrow.Author.Needs.{needs}
 use Rattle.floats.proofs.ranges.estimate_in_range.Statement.{statement}
 use Rattle.floats.proofs.ranges.estimate_in_range.Tie as tie
 
-x-in-range-requires : tie.Need-x-in-range-requires
-x-in-range-requires c κs = search needs
-
-variance-in-range-requires : tie.Need-variance-in-range-requires
-variance-in-range-requires c κs = search needs
-
 returns : tie.Need-returns
 unfolding estimateFits
 returns c = cc
 
 pub estimate-in-range-spec : {M : Type 1} → statement M
-estimate-in-range-spec =
-    tie.close (tie.spec x-in-range-requires variance-in-range-requires returns)
+estimate-in-range-spec = tie.close (tie.spec (search needs) (search needs) returns)

@@ -20,21 +20,6 @@ loop-holds : tie.Need-loop-holds Inv-loop μ-loop
 unfolding every
 loop-holds c = (omega arith, refl)
 
-mul-estimate-place : tie.Need-mul-estimate-place Inv-loop μ-loop
-mul-estimate-place c = search needs
-
-array-copy-out-estimate-place : tie.Need-array-copy-out-estimate-place Inv-loop μ-loop
-array-copy-out-estimate-place c = search needs
-
-estimate-place-requires : tie.Need-estimate-place-requires Inv-loop μ-loop
-estimate-place-requires c κs = search needs
-
-add-i : tie.Need-add-i Inv-loop μ-loop
-add-i c = search needs
-
-loop-less : tie.Need-loop-less Inv-loop μ-loop
-loop-less c = search needs
-
 loop-again : tie.Need-loop-again Inv-loop μ-loop
 loop-again c = (omega arith, every-more (stateAt (c .before .before .before .before .args .m) (c .before .before .before .before .args .t1)) _ _ _ (c .before .before .before .loop .inv .1) (c .estimate-place .ensures))
 
@@ -45,16 +30,4 @@ returns c =
     ∙ state-test (start .args .m) (start .args .t1) (start .good .0 .1 .0 .1)
 
 pub state-in-range-spec : {M : Type 1} → statement M
-state-in-range-spec =
-    tie.close
-    (tie.spec
-    Inv-loop
-    μ-loop
-    loop-holds
-    mul-estimate-place
-    array-copy-out-estimate-place
-    estimate-place-requires
-    add-i
-    loop-less
-    loop-again
-    returns)
+state-in-range-spec = tie.close (tie.spec Inv-loop μ-loop loop-holds (search needs) (search needs) (search needs) (search needs) (search needs) loop-again returns)

@@ -20,21 +20,6 @@ loop-holds : tie.Need-loop-holds Inv-loop μ-loop
 unfolding every
 loop-holds c = (omega arith, refl)
 
-mul-target-place : tie.Need-mul-target-place Inv-loop μ-loop
-mul-target-place c = search needs
-
-array-read-target-place : tie.Need-array-read-target-place Inv-loop μ-loop
-array-read-target-place c = search needs
-
-target-place-requires : tie.Need-target-place-requires Inv-loop μ-loop
-target-place-requires c κs = search needs
-
-add-i : tie.Need-add-i Inv-loop μ-loop
-add-i c = search needs
-
-loop-less : tie.Need-loop-less Inv-loop μ-loop
-loop-less c = search needs
-
 loop-again : tie.Need-loop-again Inv-loop μ-loop
 loop-again c = (omega arith, every-more (targetAt (c .before .before .before .args .m) (c .before .before .before .args .t1)) _ _ _ (c .before .before .loop .inv .1) (c .target-place .ensures))
 
@@ -45,16 +30,4 @@ returns c =
     ∙ targets-test (start .args .m) (start .args .t1) (start .good .0 .1 .0 .1)
 
 pub targets-in-range-spec : {M : Type 1} → statement M
-targets-in-range-spec =
-    tie.close
-    (tie.spec
-    Inv-loop
-    μ-loop
-    loop-holds
-    mul-target-place
-    array-read-target-place
-    target-place-requires
-    add-i
-    loop-less
-    loop-again
-    returns)
+targets-in-range-spec = tie.close (tie.spec Inv-loop μ-loop loop-holds (search needs) (search needs) (search needs) (search needs) (search needs) loop-again returns)

@@ -9,11 +9,8 @@ use borrow.Author.Needs.{needs}
 use Rattle.floats.proofs.ranges.x_in_range.Statement.{statement}
 use Rattle.floats.proofs.ranges.x_in_range.Tie as tie
 
-bits-of-requires : tie.Need-bits-of-requires
-bits-of-requires c κs = search needs
-
 returns : tie.Need-returns
 returns c = ap (λ (b : ℕ). leb b xBits) (c .bits-of .ensures) ∙ bits-test xTop xBits x-limit (c .before .args .x) (c .before .good .0 .1)
 
 pub x-in-range-spec : {M : Type 1} → statement M
-x-in-range-spec = tie.close (tie.spec bits-of-requires returns)
+x-in-range-spec = tie.close (tie.spec (search needs) returns)

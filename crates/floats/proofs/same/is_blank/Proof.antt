@@ -4,15 +4,9 @@ use borrow.Author.Needs.{needs}
 use Rattle.floats.proofs.same.is_blank.Statement.{statement}
 use Rattle.floats.proofs.same.is_blank.Tie as tie
 
-is-nought-requires : tie.Need-is-nought-requires
-is-nought-requires c κs = search needs
-
-is-nought-requires-2 : tie.Need-is-nought-requires-2
-is-nought-requires-2 c κs = search needs
-
 returns : tie.Need-returns
 unfolding sameEstimate
 returns c = cc
 
 pub is-blank-spec : {M : Type 1} → statement M
-is-blank-spec = tie.close (tie.spec is-nought-requires is-nought-requires-2 returns)
+is-blank-spec = tie.close (tie.spec (search needs) (search needs) returns)

@@ -6,14 +6,8 @@ use borrow.Author.Needs.{needs}
 use Rattle.floats.proofs.same.same_float.Statement.{statement}
 use Rattle.floats.proofs.same.same_float.Tie as tie
 
-bits-of-requires : tie.Need-bits-of-requires
-bits-of-requires c κs = search needs
-
-bits-of-requires-2 : tie.Need-bits-of-requires-2
-bits-of-requires-2 c κs = search needs
-
 returns : tie.Need-returns
 returns c = ap₂ eqb (c .before .bits-of .ensures) (c .bits-of2 .ensures) ∙ same-test (c .before .before .args .x) (c .before .before .args .y) (c .before .before .good .0 .1) (c .before .before .good .1 .0 .1)
 
 pub same-float-spec : {M : Type 1} → statement M
-same-float-spec = tie.close (tie.spec bits-of-requires bits-of-requires-2 returns)
+same-float-spec = tie.close (tie.spec (search needs) (search needs) returns)

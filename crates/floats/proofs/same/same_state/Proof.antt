@@ -20,27 +20,6 @@ loop-holds : tie.Need-loop-holds Inv-loop μ-loop
 unfolding every
 loop-holds c = (omega arith, refl)
 
-mul-same-estimate : tie.Need-mul-same-estimate Inv-loop μ-loop
-mul-same-estimate c = search needs
-
-array-copy-out-same-estimate : tie.Need-array-copy-out-same-estimate Inv-loop μ-loop
-array-copy-out-same-estimate c = search needs
-
-mul-same-estimate-2 : tie.Need-mul-same-estimate-2 Inv-loop μ-loop
-mul-same-estimate-2 c = search needs
-
-array-copy-out-same-estimate-2 : tie.Need-array-copy-out-same-estimate-2 Inv-loop μ-loop
-array-copy-out-same-estimate-2 c = search needs
-
-same-estimate-requires : tie.Need-same-estimate-requires Inv-loop μ-loop
-same-estimate-requires c κs = search needs
-
-add-i : tie.Need-add-i Inv-loop μ-loop
-add-i c = search needs
-
-loop-less : tie.Need-loop-less Inv-loop μ-loop
-loop-less c = search needs
-
 loop-again : tie.Need-loop-again Inv-loop μ-loop
 loop-again c = (omega arith, every-more (sameAt (c .before .before .before .before .before .args .t1) (c .before .before .before .before .before .args .t2)) _ _ _ (c .before .before .before .before .loop .inv .1) (c .same-estimate .ensures))
 
@@ -49,18 +28,5 @@ unfolding sameState
 returns c = every-end (sameAt (c .before .before .args .t1) (c .before .before .args .t2)) _ (c .before .loop .i) (c .before .loop .inv .1) (c .before .loop .inv .0) (c .loop-test .left)
 
 pub same-state-spec : {M : Type 1} → statement M
-same-state-spec =
-    tie.close
-    (tie.spec
-    Inv-loop
-    μ-loop
-    loop-holds
-    mul-same-estimate
-    array-copy-out-same-estimate
-    mul-same-estimate-2
-    array-copy-out-same-estimate-2
-    same-estimate-requires
-    add-i
-    loop-less
-    loop-again
-    returns)
+same-state-spec = tie.close (tie.spec Inv-loop μ-loop loop-holds (search needs) (search needs) (search needs) (search needs) (search needs) (search needs) (search needs)
+    loop-again returns)

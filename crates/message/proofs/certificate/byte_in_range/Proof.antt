@@ -3,9 +3,6 @@ use borrow.Author.Needs.{needs}
 use Rattle.message.proofs.certificate.byte_in_range.Statement.{statement}
 use Rattle.message.proofs.certificate.byte_in_range.Tie as tie
 
-is-visible-requires : tie.Need-is-visible-requires
-is-visible-requires c κs = search needs
-
 returns : tie.Need-returns
 returns c = cc
 
@@ -13,4 +10,4 @@ returns-2 : tie.Need-returns-2
 returns-2 c = cc
 
 pub byte-in-range-spec : {M : Type 1} → statement M
-byte-in-range-spec = tie.close (tie.spec is-visible-requires returns returns-2)
+byte-in-range-spec = tie.close (tie.spec (search needs) returns returns-2)

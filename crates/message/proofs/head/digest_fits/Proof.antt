@@ -4,15 +4,9 @@ use borrow.Author.Needs.{needs}
 use Rattle.message.proofs.head.digest_fits.Statement.{statement}
 use Rattle.message.proofs.head.digest_fits.Tie as tie
 
-in-range-requires : tie.Need-in-range-requires
-in-range-requires c κs = search needs
-
-legal-requires : tie.Need-legal-requires
-legal-requires c κs = search needs
-
 returns : tie.Need-returns
 unfolding headFits
 returns c = cc
 
 pub digest-fits-spec : {M : Type 1} → statement M
-digest-fits-spec = tie.close (tie.spec in-range-requires legal-requires returns)
+digest-fits-spec = tie.close (tie.spec (search needs) (search needs) returns)

@@ -4,15 +4,9 @@ use borrow.Author.Needs.{needs}
 use Rattle.message.proofs.head.mask_fits.Statement.{statement}
 use Rattle.message.proofs.head.mask_fits.Tie as tie
 
-in-range-requires : tie.Need-in-range-requires
-in-range-requires c κs = search needs
-
-mask-in-range-requires : tie.Need-mask-in-range-requires
-mask-in-range-requires c κs = search needs
-
 returns : tie.Need-returns
 unfolding headFits
 returns c = cc
 
 pub mask-fits-spec : {M : Type 1} → statement M
-mask-fits-spec = tie.close (tie.spec in-range-requires mask-in-range-requires returns)
+mask-fits-spec = tie.close (tie.spec (search needs) (search needs) returns)

@@ -4,12 +4,9 @@ use borrow.Author.Needs.{needs}
 use Rattle.message.proofs.head.state_fits.Statement.{statement}
 use Rattle.message.proofs.head.state_fits.Tie as tie
 
-in-range-requires : tie.Need-in-range-requires
-in-range-requires c κs = search needs
-
 returns : tie.Need-returns
 unfolding headFits
 returns c = cc
 
 pub state-fits-spec : {M : Type 1} → statement M
-state-fits-spec = tie.close (tie.spec in-range-requires returns)
+state-fits-spec = tie.close (tie.spec (search needs) returns)

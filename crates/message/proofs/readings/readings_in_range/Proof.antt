@@ -23,24 +23,6 @@ loop-holds : tie.Need-loop-holds Inv-loop μ-loop
 unfolding every
 loop-holds c = (omega arith, refl)
 
-has-requires : tie.Need-has-requires Inv-loop μ-loop
-has-requires c κs = search needs
-
-mul-reading-place : tie.Need-mul-reading-place Inv-loop μ-loop
-mul-reading-place c = search needs
-
-array-read-reading-place : tie.Need-array-read-reading-place Inv-loop μ-loop
-array-read-reading-place c = search needs
-
-reading-place-requires : tie.Need-reading-place-requires Inv-loop μ-loop
-reading-place-requires c κs = search needs
-
-add-i : tie.Need-add-i Inv-loop μ-loop
-add-i c = omega arith
-
-loop-less : tie.Need-loop-less Inv-loop μ-loop
-loop-less c = omega arith
-
 loop-again : tie.Need-loop-again Inv-loop μ-loop
 loop-again c =
     let a = c .before .before .before .before .args in
@@ -51,17 +33,5 @@ unfolding readingsFit
 returns c = let a = c .before .before .args in let e : c .before .loop .i ≡ 16 = omega arith in let long : length (a .t2) ≡ 16 = omega arith in rw (eq-eqb (length (a .t2)) 16 long) (c .before .loop .inv .1 ∙ ap (every (readingAt (a .mask) (a .t2))) e)
 
 pub readings-in-range-spec : {M : Type 1} → statement M
-readings-in-range-spec =
-    tie.close
-    (tie.spec
-    Inv-loop
-    μ-loop
-    loop-holds
-    has-requires
-    mul-reading-place
-    array-read-reading-place
-    reading-place-requires
-    add-i
-    loop-less
-    loop-again
-    returns)
+readings-in-range-spec = tie.close (tie.spec Inv-loop μ-loop loop-holds (search needs) (search needs) (search needs) (search needs) (λ c. omega arith) (λ c. omega arith)
+    loop-again returns)

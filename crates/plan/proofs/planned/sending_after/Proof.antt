@@ -5,18 +5,6 @@ use borrow.Author.Needs.{needs}
 use Rattle.plan.proofs.planned.sending_after.Statement.{statement}
 use Rattle.plan.proofs.planned.sending_after.Tie as tie
 
-enum-told : tie.Need-enum-told
-enum-told c = search needs
-
-sending-requires : tie.Need-sending-requires
-sending-requires c κs = search needs
-
-enum-known-first : tie.Need-enum-known-first
-enum-known-first c = search needs
-
-sending-both-requires : tie.Need-sending-both-requires
-sending-both-requires c κs = search needs
-
 returns : tie.Need-returns
 unfolding afterwards
 returns c = along (afterwards (c .before .before .before .args .effect) (c .before .before .before .args .head)) (c .before .enum-told .given .1) (c .sending .ensures)
@@ -26,6 +14,4 @@ unfolding afterwards
 returns-2 c = along (afterwards (c .before .before .before .before .args .effect) (c .before .before .before .before .args .head)) (c .before .before .first .given .1) (c .sending-both .ensures)
 
 pub sending-after-spec : {M : Type 1} → statement M
-sending-after-spec =
-    tie.close
-    (tie.spec enum-told sending-requires enum-known-first sending-both-requires returns returns-2)
+sending-after-spec = tie.close (tie.spec (search needs) (search needs) (search needs) (search needs) returns returns-2)

@@ -7,12 +7,6 @@ use Rattle.session.specs.Feeding.{orNothing}
 use Rattle.session.proofs.answer.or_nothing.Statement.{statement}
 use Rattle.session.proofs.answer.or_nothing.Tie as tie
 
-number-requires : tie.Need-number-requires
-number-requires c κs = search needs
-
-number-requires-2 : tie.Need-number-requires-2
-number-requires-2 c κs = search needs
-
 returns : tie.Need-returns
 unfolding orNothing
 returns c = by-yes _ (eq-eqb _ _ (sym (c .before .before .number .ensures) ∙ c .if1 .taken ∙ c .before .number2 .ensures)) refl
@@ -22,4 +16,4 @@ unfolding orNothing
 returns-2 c = by-no _ (ne-eqb _ _ (λ e. c .if1 .left (c .before .before .number .ensures ∙ e ∙ sym (c .before .number2 .ensures)))) refl
 
 pub or-nothing-spec : {M : Type 1} → statement M
-or-nothing-spec = tie.close (tie.spec number-requires number-requires-2 returns returns-2)
+or-nothing-spec = tie.close (tie.spec (search needs) (search needs) returns returns-2)

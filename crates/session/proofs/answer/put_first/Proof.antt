@@ -10,32 +10,8 @@ use Rattle.session.proofs.answer.put_first.Tie as tie
 slice-aggregate-put-part : tie.Need-slice-aggregate-put-part
 slice-aggregate-put-part c = sym (length-take-le _ _ (omega arith))
 
-put-part-requires : tie.Need-put-part-requires
-put-part-requires c κs = search needs
-
-put-part-requires-2 : tie.Need-put-part-requires-2
-put-part-requires-2 c κs = search needs
-
-same-length : tie.Need-same-length
-same-length c = search needs
-
-returns : tie.Need-returns
-returns c = search needs
-
-same-length-2 : tie.Need-same-length-2
-same-length-2 c = search needs
-
 returns-2 : tie.Need-returns-2
 returns-2 c = let a = c .before .before .before .before .before .before .before .args in c .before .before .put-part2 .ensures .1 ∙ ap (put (a .out .now) 0) (sym (take-all (a .n) (a .line .now) (omega arith)))
 
 pub put-first-spec : {M : Type 1} → statement M
-put-first-spec =
-    tie.close
-    (tie.spec
-    slice-aggregate-put-part
-    put-part-requires
-    put-part-requires-2
-    same-length
-    returns
-    same-length-2
-    returns-2)
+put-first-spec = tie.close (tie.spec slice-aggregate-put-part (search needs) (search needs) (search needs) (λ c. search needs) (search needs) returns-2)

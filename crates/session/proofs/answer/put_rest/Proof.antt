@@ -6,41 +6,13 @@ use Rattle.session.specs.Feeding.{restText}
 use Rattle.session.proofs.answer.put_rest.Statement.{statement}
 use Rattle.session.proofs.answer.put_rest.Tie as tie
 
-enum-told : tie.Need-enum-told
-enum-told c = search needs
-
-put-verdict-requires : tie.Need-put-verdict-requires
-put-verdict-requires c κs = search needs
-
-enum-known-second : tie.Need-enum-known-second
-enum-known-second c = search needs
-
-put-sent-requires : tie.Need-put-sent-requires
-put-sent-requires c κs = search needs
-
-same-length : tie.Need-same-length
-same-length c = search needs
-
 returns : tie.Need-returns
 unfolding restText
 returns c = let a = c .before .before .before .before .before .before .before .args in puts-same (a .out .now) (ap (restText (a .numbers) (a .c) (a .verdict)) (c .before .before .before .before .enum-told .given .1)) (c .before .before .put-verdict .ensures)
-
-same-length-2 : tie.Need-same-length-2
-same-length-2 c = search needs
 
 returns-2 : tie.Need-returns-2
 unfolding restText
 returns-2 c = let a = c .before .before .before .before .before .before .before .before .args in puts-same (a .out .now) (ap (restText (a .numbers) (a .c) (a .verdict)) (c .before .before .before .before .before .second .given .1)) (c .before .before .put-sent .ensures)
 
 pub put-rest-spec : {M : Type 1} → statement M
-put-rest-spec =
-    tie.close
-    (tie.spec
-    enum-told
-    put-verdict-requires
-    enum-known-second
-    put-sent-requires
-    same-length
-    returns
-    same-length-2
-    returns-2)
+put-rest-spec = tie.close (tie.spec (search needs) (search needs) (search needs) (search needs) (search needs) returns (search needs) returns-2)

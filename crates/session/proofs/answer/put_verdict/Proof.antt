@@ -6,27 +6,13 @@ use Rattle.session.specs.Turn.{verdictText}
 use Rattle.session.proofs.answer.put_verdict.Statement.{statement}
 use Rattle.session.proofs.answer.put_verdict.Tie as tie
 
-enum-told : tie.Need-enum-told
-enum-told c = search needs
-
-enum-known-verdict : tie.Need-enum-known-verdict
-enum-known-verdict c = search needs
-
-write-refusal-requires : tie.Need-write-refusal-requires
-write-refusal-requires c κs = search needs
-
 returns : tie.Need-returns
 unfolding verdictText
 returns c = let a = c .before .before .before .args in puts-same (a .out .now) (ap verdictText (c .enum-told .given .1)) (puts-none (a .out .now))
-
-same-length : tie.Need-same-length
-same-length c = search needs
 
 returns-2 : tie.Need-returns-2
 unfolding verdictText
 returns-2 c = let a = c .before .before .before .before .before .before .before .before .args in puts-same (a .out .now) (ap verdictText (c .before .before .before .before .before .verdict .given .1)) (c .before .before .write-refusal .ensures)
 
 pub put-verdict-spec : {M : Type 1} → statement M
-put-verdict-spec =
-    tie.close
-    (tie.spec enum-told enum-known-verdict write-refusal-requires returns same-length returns-2)
+put-verdict-spec = tie.close (tie.spec (search needs) (search needs) (search needs) returns (search needs) returns-2)

@@ -6,21 +6,12 @@ use Rattle.lines.specs.Reading.{readLine, firstLine}
 use Rattle.session.proofs.carry.first.Statement.{statement}
 use Rattle.session.proofs.carry.first.Tie as tie
 
-is-empty-requires : tie.Need-is-empty-requires
-is-empty-requires c κs = search needs
-
-read-first-requires : tie.Need-read-first-requires
-read-first-requires c κs = search needs
-
 returns : tie.Need-returns
 unfolding firstLine
 returns c = let a = c .before .before .before .before .args in (ap (λ f. f .feed) (c .read-first .ensures), λ n. ap (λ f. f .line) (c .read-first .ensures) ∙ ap (readLine (a .group)) (sym (line-alone (a .carry) _ (sym (c .before .before .is-empty .ensures) ∙ c .before .if1 .taken))))
-
-first-on-requires : tie.Need-first-on-requires
-first-on-requires c κs = search needs
 
 returns-2 : tie.Need-returns-2
 returns-2 c = c .first-on .ensures
 
 pub first-spec : {M : Type 1} → statement M
-first-spec = tie.close (tie.spec is-empty-requires read-first-requires returns first-on-requires returns-2)
+first-spec = tie.close (tie.spec (search needs) (search needs) returns (search needs) returns-2)

@@ -10,18 +10,8 @@ use Rattle.session.proofs.carry.read_part.Tie as tie
 slice-aggregate-read : tie.Need-slice-aggregate-read
 slice-aggregate-read c = sym (length-take-le _ _ (omega arith))
 
-read-requires : tie.Need-read-requires
-read-requires c κs = search needs
-
-returns : tie.Need-returns
-returns c = search needs
-
-read-requires-2 : tie.Need-read-requires-2
-read-requires-2 c κs = search needs
-
 returns-2 : tie.Need-returns-2
 returns-2 c = let a = c .before .before .before .args in c .read2 .ensures ∙ ap (readLine (a .group)) (sym (take-all (a .n) (a .bytes .now) (omega arith)))
 
 pub read-part-spec : {M : Type 1} → statement M
-read-part-spec =
-    tie.close (tie.spec slice-aggregate-read read-requires returns read-requires-2 returns-2)
+read-part-spec = tie.close (tie.spec slice-aggregate-read (search needs) (λ c. search needs) (search needs) returns-2)

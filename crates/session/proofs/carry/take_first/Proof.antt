@@ -10,18 +10,8 @@ use Rattle.session.proofs.carry.take_first.Tie as tie
 slice-aggregate-take : tie.Need-slice-aggregate-take
 slice-aggregate-take c = sym (length-take-le _ _ (omega arith))
 
-take-requires : tie.Need-take-requires
-take-requires c κs = search needs
-
-returns : tie.Need-returns
-returns c = search needs
-
-take-requires-2 : tie.Need-take-requires-2
-take-requires-2 c κs = search needs
-
 returns-2 : tie.Need-returns-2
 returns-2 c = let a = c .before .before .before .args in c .take2 .ensures ∙ ap (settleLine (a .settling)) (sym (take-all (a .n) (a .bytes .now) (omega arith)))
 
 pub take-first-spec : {M : Type 1} → statement M
-take-first-spec =
-    tie.close (tie.spec slice-aggregate-take take-requires returns take-requires-2 returns-2)
+take-first-spec = tie.close (tie.spec slice-aggregate-take (search needs) (λ c. search needs) (search needs) returns-2)

@@ -5,15 +5,9 @@ use Rattle.fields.specs.Text.{scanned}
 use Rattle.session.proofs.carry.unread.Statement.{statement}
 use Rattle.session.proofs.carry.unread.Tie as tie
 
-scan-requires : tie.Need-scan-requires
-scan-requires c κs = search needs
-
-plain-requires : tie.Need-plain-requires
-plain-requires c κs = search needs
-
 returns : tie.Need-returns
 unfolding scanned
 returns c = ap (λ s. s .feed) (c .before .scan .ensures)
 
 pub unread-spec : {M : Type 1} → statement M
-unread-spec = tie.close (tie.spec scan-requires plain-requires returns)
+unread-spec = tie.close (tie.spec (search needs) (search needs) returns)

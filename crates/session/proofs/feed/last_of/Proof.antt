@@ -9,33 +9,6 @@ use Rattle.session.specs.Feeding.{lastOf}
 use Rattle.session.proofs.feed.last_of.Statement.{statement}
 use Rattle.session.proofs.feed.last_of.Tie as tie
 
-enum-told : tie.Need-enum-told
-enum-told c = search needs
-
-line-requires : tie.Need-line-requires
-line-requires c κs = search needs
-
-unended-requires : tie.Need-unended-requires
-unended-requires c κs = search needs
-
-number-requires : tie.Need-number-requires
-number-requires c κs = search needs
-
-enum-told-2 : tie.Need-enum-told-2
-enum-told-2 c = search needs
-
-unended-line-requires : tie.Need-unended-line-requires
-unended-line-requires c κs = search needs
-
-enum-told-3 : tie.Need-enum-told-3
-enum-told-3 c = search needs
-
-unended-line-requires-2 : tie.Need-unended-line-requires-2
-unended-line-requires-2 c κs = search needs
-
-enum-told-4 : tie.Need-enum-told-4
-enum-told-4 c = search needs
-
 returns : tie.Need-returns
 unfolding lastOf
 returns c = let a = c .before .before .before .before .before .args in along (lastOf (a .settling) (a .n)) (c .before .before .before .enum-told .given .1) (ap₂ (λ l k. Refused (Settings l k)) (c .before .before .line .ensures) (c .number .ensures ∙ ap numberOf (c .before .unended .ensures)))
@@ -53,19 +26,5 @@ unfolding lastOf
 returns-4 c = let a = c .before .before .args in along (lastOf (a .settling) (a .n)) (c .enum-told4 .given .1) refl
 
 pub last-of-spec : {M : Type 1} → statement M
-last-of-spec =
-    tie.close
-    (tie.spec
-    enum-told
-    line-requires
-    unended-requires
-    number-requires
-    enum-told-2
-    unended-line-requires
-    enum-told-3
-    unended-line-requires-2
-    enum-told-4
-    returns
-    returns-2
-    returns-3
-    returns-4)
+last-of-spec = tie.close (tie.spec (search needs) (search needs) (search needs) (search needs) (search needs) (search needs) (search needs) (search needs) (search needs)
+    returns returns-2 returns-3 returns-4)

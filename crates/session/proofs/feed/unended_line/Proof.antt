@@ -12,12 +12,9 @@ returns : tie.Need-returns
 unfolding unendedLine
 returns c = by-yes _ (eq-eqb _ _ (c .if1 .taken)) refl
 
-unended-requires : tie.Need-unended-requires
-unended-requires c κs = search needs
-
 returns-2 : tie.Need-returns-2
 unfolding unendedLine
 returns-2 c = by-no _ (ne-eqb _ _ (c .before .if1 .left)) (ap Refused (c .unended .ensures))
 
 pub unended-line-spec : {M : Type 1} → statement M
-unended-line-spec = tie.close (tie.spec returns unended-requires returns-2)
+unended-line-spec = tie.close (tie.spec returns (search needs) returns-2)

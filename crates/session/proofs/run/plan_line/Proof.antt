@@ -5,18 +5,6 @@ use Rattle.session.specs.Serving.{planLine}
 use Rattle.session.proofs.run.plan_line.Statement.{statement}
 use Rattle.session.proofs.run.plan_line.Tie as tie
 
-enum-told : tie.Need-enum-told
-enum-told c = search needs
-
-plan-requires : tie.Need-plan-requires
-plan-requires c κs = search needs
-
-enum-known-verdict : tie.Need-enum-known-verdict
-enum-known-verdict c = search needs
-
-refusal-requires : tie.Need-refusal-requires
-refusal-requires c κs = search needs
-
 returns : tie.Need-returns
 unfolding planLine
 returns c = along (planLine _ _ _ _) (c .before .enum-told .given .1) (c .plan .ensures)
@@ -26,6 +14,4 @@ unfolding planLine
 returns-2 c = along (planLine _ _ _ _) (c .before .before .verdict .given .1) (c .refusal .ensures)
 
 pub plan-line-spec : {M : Type 1} → statement M
-plan-line-spec =
-    tie.close
-    (tie.spec enum-told plan-requires enum-known-verdict refusal-requires returns returns-2)
+plan-line-spec = tie.close (tie.spec (search needs) (search needs) (search needs) (search needs) returns returns-2)

@@ -29,47 +29,14 @@ sub-read-first c = c .before .loop .inv .within
 part-read-first-start : tie.Need-part-read-first-start Inv-loop μ-loop
 part-read-first-start c = c .before .loop .inv .within
 
-part-read-first-end : tie.Need-part-read-first-end Inv-loop μ-loop
-part-read-first-end c = search needs
-
-read-first-requires : tie.Need-read-first-requires Inv-loop μ-loop
-read-first-requires c κs = search needs
-
 sub-if1 : tie.Need-sub-if1 Inv-loop μ-loop
 sub-if1 c = c .before .before .before .before .before .loop .inv .within
-
-added-by-requires : tie.Need-added-by-requires Inv-loop μ-loop
-added-by-requires c κs = search needs
-
-enum-known-change : tie.Need-enum-known-change Inv-loop μ-loop
-enum-known-change c = search needs
-
-add-requires : tie.Need-add-requires Inv-loop μ-loop
-add-requires c κs = search needs
-
-plan-line-requires : tie.Need-plan-line-requires Inv-loop μ-loop
-plan-line-requires c κs = search needs
-
-change-requires : tie.Need-change-requires Inv-loop μ-loop
-change-requires c κs = search needs
-
-enum-told : tie.Need-enum-told Inv-loop μ-loop
-enum-told c = search needs
-
-apply-requires : tie.Need-apply-requires Inv-loop μ-loop
-apply-requires c κs = search needs
 
 sub-put-plan : tie.Need-sub-put-plan Inv-loop μ-loop
 sub-put-plan c = filled-few _ _ _ _ _ (c .before .before .before .before .before .before .before .before .before .before .before .loop .inv)
 
 part-put-plan-start : tie.Need-part-put-plan-start Inv-loop μ-loop
 part-put-plan-start c = filled-few _ _ _ _ _ (c .before .before .before .before .before .before .before .before .before .before .before .loop .inv)
-
-part-put-plan-end : tie.Need-part-put-plan-end Inv-loop μ-loop
-part-put-plan-end c = search needs
-
-put-plan-requires : tie.Need-put-plan-requires Inv-loop μ-loop
-put-plan-requires c κs = search needs
 
 add-filled : tie.Need-add-filled Inv-loop μ-loop
 add-filled c =
@@ -124,35 +91,6 @@ returns-2 : tie.Need-returns-2 Inv-loop μ-loop
 returns-2 c = ends-line _ _ _ _ (c .before .before .before .before .before .before .loop .inv) (c .before .before .before .read-first .ensures) (c .if1 .taken)
 
 pub run-lines-spec : {M : Type 1} → statement M
-run-lines-spec =
-    tie.close
-    (tie.spec
-    Inv-loop
-    μ-loop
-    loop-holds
-    sub-loop
-    sub-read-first
-    part-read-first-start
-    part-read-first-end
-    read-first-requires
-    sub-if1
-    added-by-requires
-    enum-known-change
-    add-requires
-    plan-line-requires
-    change-requires
-    enum-told
-    apply-requires
-    sub-put-plan
-    part-put-plan-start
-    part-put-plan-end
-    put-plan-requires
-    add-filled
-    add-at
-    add-at-2
-    loop-less
-    loop-again
-    same-length
-    returns
-    same-length-2
-    returns-2)
+run-lines-spec = tie.close (tie.spec Inv-loop μ-loop loop-holds sub-loop sub-read-first part-read-first-start (search needs) (search needs) sub-if1 (search needs)
+    (search needs) (search needs) (search needs) (search needs) (search needs) (search needs) sub-put-plan part-put-plan-start (search needs) (search needs) add-filled
+    add-at add-at-2 loop-less loop-again same-length returns same-length-2 returns-2)

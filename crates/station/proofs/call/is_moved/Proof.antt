@@ -6,15 +6,6 @@ use Rattle.station.specs.Calls.{isMoved}
 use Rattle.station.proofs.call.is_moved.Statement.{statement}
 use Rattle.station.proofs.call.is_moved.Tie as tie
 
-enum-told : tie.Need-enum-told
-enum-told c = search needs
-
-enum-told-2 : tie.Need-enum-told-2
-enum-told-2 c = search needs
-
-enum-told-3 : tie.Need-enum-told-3
-enum-told-3 c = search needs
-
 returns : tie.Need-returns
 unfolding isMoved
 returns c = along isMoved (c .enum-told .given .1) refl
@@ -28,5 +19,4 @@ unfolding isMoved
 returns-3 c = along isMoved (c .enum-told3 .given .1) refl
 
 pub is-moved-spec : {M : Type 1} → statement M
-is-moved-spec =
-    tie.close (tie.spec enum-told enum-told-2 enum-told-3 returns returns-2 returns-3)
+is-moved-spec = tie.close (tie.spec (search needs) (search needs) (search needs) returns returns-2 returns-3)

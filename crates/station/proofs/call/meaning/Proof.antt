@@ -54,13 +54,10 @@ returns-2 c =
     let s = c .before .before .before in
     failed-is (s .args .got) (s .args .error) _ (subst (λ (z : ℤ). ltZ z (pos 0) ≡ true) (toZ-ofZ (s .fits .got)) (c .before .if1 .taken)) (by-no _ (other (s .args .error) (c .if2 .left)) refl)
 
-count-requires : tie.Need-count-requires
-count-requires c κs = search needs
-
 returns-3 : tie.Need-returns-3
 returns-3 c =
     let s = c .before .before .before in
     moved-is (s .args .got) (s .args .error) _ (subst (λ (z : ℤ). ltZ z (pos 0) ≡ false) (toZ-ofZ (s .fits .got)) (c .before .if1 .left)) (c .count .ensures .1 ∙ ap (λ (z : ℤ). clamped z (length (s .args .part .now))) (toZ-ofZ (s .fits .got)))
 
 pub meaning-spec : {M : Type 1} → statement M
-meaning-spec = tie.close (tie.spec returns returns-2 count-requires returns-3)
+meaning-spec = tie.close (tie.spec returns returns-2 (search needs) returns-3)

@@ -6,15 +6,6 @@ use Rattle.station.specs.Calls.{movedBy}
 use Rattle.station.proofs.call.moved.Statement.{statement}
 use Rattle.station.proofs.call.moved.Tie as tie
 
-enum-known-outcome : tie.Need-enum-known-outcome
-enum-known-outcome c = search needs
-
-enum-told : tie.Need-enum-told
-enum-told c = search needs
-
-enum-told-2 : tie.Need-enum-told-2
-enum-told-2 c = search needs
-
 returns : tie.Need-returns
 unfolding movedBy
 returns c = along movedBy (c .before .outcome .given .1) refl
@@ -28,5 +19,4 @@ unfolding movedBy
 returns-3 c = along movedBy (c .enum-told2 .given .1) refl
 
 pub moved-spec : {M : Type 1} → statement M
-moved-spec =
-    tie.close (tie.spec enum-known-outcome enum-told enum-told-2 returns returns-2 returns-3)
+moved-spec = tie.close (tie.spec (search needs) (search needs) (search needs) returns returns-2 returns-3)

@@ -6,18 +6,6 @@ use Rattle.station.specs.Calls.{readsLeft}
 use Rattle.station.proofs.call.reads_left.Statement.{statement}
 use Rattle.station.proofs.call.reads_left.Tie as tie
 
-enum-told : tie.Need-enum-told
-enum-told c = search needs
-
-enum-told-2 : tie.Need-enum-told-2
-enum-told-2 c = search needs
-
-sub-result : tie.Need-sub-result
-sub-result c = search needs
-
-enum-told-3 : tie.Need-enum-told-3
-enum-told-3 c = search needs
-
 returns : tie.Need-returns
 unfolding readsLeft
 returns c = along (readsLeft _) (c .enum-told .given .1) refl
@@ -31,6 +19,4 @@ unfolding readsLeft
 returns-3 c = along (readsLeft _) (c .enum-told3 .given .1) refl
 
 pub reads-left-spec : {M : Type 1} → statement M
-reads-left-spec =
-    tie.close
-    (tie.spec enum-told enum-told-2 sub-result enum-told-3 returns returns-2 returns-3)
+reads-left-spec = tie.close (tie.spec (search needs) (search needs) (search needs) (search needs) returns returns-2 returns-3)

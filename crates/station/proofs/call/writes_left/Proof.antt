@@ -20,20 +20,8 @@ unfolding writesLeft
 none-left zero left h = refl
 none-left (suc n) left h = absurd (omega arith)
 
-enum-known-outcome : tie.Need-enum-known-outcome
-enum-known-outcome c = search needs
-
 returns : tie.Need-returns
 returns c = along (writesLeft _) (c .before .before .outcome .given .1) (none-left _ _ (c .if1 .taken))
-
-enum-told : tie.Need-enum-told
-enum-told c = search needs
-
-sub-result : tie.Need-sub-result
-sub-result c = search needs
-
-enum-told-2 : tie.Need-enum-told-2
-enum-told-2 c = search needs
 
 returns-2 : tie.Need-returns-2
 returns-2 c = along (writesLeft _) (c .before .before .outcome .given .1) (some-left _ _ (c .if1 .left))
@@ -47,14 +35,4 @@ unfolding writesLeft
 returns-4 c = along (writesLeft _) (c .enum-told2 .given .1) refl
 
 pub writes-left-spec : {M : Type 1} → statement M
-writes-left-spec =
-    tie.close
-    (tie.spec
-    enum-known-outcome
-    returns
-    enum-told
-    sub-result
-    enum-told-2
-    returns-2
-    returns-3
-    returns-4)
+writes-left-spec = tie.close (tie.spec (search needs) returns (search needs) (search needs) (search needs) returns-2 returns-3 returns-4)

@@ -14,23 +14,8 @@ Inv-loop block₀ have₀ ok₀ left₀ block have ok left = (have ≤ length bl
 abbrev μ-loop : tie.MeasureT-loop
 μ-loop block₀ have₀ ok₀ left₀ block have ok left = left
 
-budget-requires : tie.Need-budget-requires Inv-loop μ-loop
-budget-requires c κs = search needs
-
 loop-holds : tie.Need-loop-holds Inv-loop μ-loop
 loop-holds c = (omega arith, refl)
-
-read-some-requires : tie.Need-read-some-requires Inv-loop μ-loop
-read-some-requires c κs = search needs
-
-moved-requires : tie.Need-moved-requires Inv-loop μ-loop
-moved-requires c κs = search needs
-
-is-moved-requires : tie.Need-is-moved-requires Inv-loop μ-loop
-is-moved-requires c κs = search needs
-
-reads-left-requires : tie.Need-reads-left-requires Inv-loop μ-loop
-reads-left-requires c κs = search needs
 
 loop-less : tie.Need-loop-less Inv-loop μ-loop
 loop-less c =
@@ -47,18 +32,5 @@ returns : tie.Need-returns Inv-loop μ-loop
 returns c = c .before .loop .inv .0
 
 pub hear-spec : {M : Type 1} → statement M
-hear-spec =
-    tie.close
-    (tie.spec
-    Inv-loop
-    μ-loop
-    budget-requires
-    loop-holds
-    read-some-requires
-    moved-requires
-    is-moved-requires
-    reads-left-requires
-    loop-less
-    loop-again
-    same-length
+hear-spec = tie.close (tie.spec Inv-loop μ-loop (search needs) loop-holds (search needs) (search needs) (search needs) (search needs) loop-less loop-again same-length
     returns)

@@ -5,21 +5,8 @@ use borrow.Author.Needs.{needs}
 use Rattle.station.proofs.hear.read_some.Statement.{statement}
 use Rattle.station.proofs.hear.read_some.Tie as tie
 
-read-requires : tie.Need-read-requires
-read-requires c κs = search needs
-
-errno-requires : tie.Need-errno-requires
-errno-requires c κs = search needs
-
-meaning-requires : tie.Need-meaning-requires
-meaning-requires c κs = search needs
-
-same-length : tie.Need-same-length
-same-length c = search needs
-
 returns : tie.Need-returns
 returns c = let m = moved-within _ _ _ (c .meaning .ensures) in omega (arith, m)
 
 pub read-some-spec : {M : Type 1} → statement M
-read-some-spec =
-    tie.close (tie.spec read-requires errno-requires meaning-requires same-length returns)
+read-some-spec = tie.close (tie.spec (search needs) (search needs) (search needs) (search needs) returns)

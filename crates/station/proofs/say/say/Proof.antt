@@ -17,9 +17,6 @@ Inv-loop fd text n at₀ left₀ at left = (n ≤ length text) × (at ≤ n)
 abbrev μ-loop : tie.MeasureT-loop
 μ-loop fd text n at₀ left₀ at left = (n - at) + left
 
-budget-requires : tie.Need-budget-requires Inv-loop μ-loop
-budget-requires c κs = search needs
-
 loop-holds : tie.Need-loop-holds Inv-loop μ-loop
 loop-holds c = (c .before .before .pre, omega arith)
 
@@ -31,12 +28,6 @@ part-write-some-start c = c .before .loop .inv .1
 
 part-write-some-end : tie.Need-part-write-some-end Inv-loop μ-loop
 part-write-some-end c = c .before .loop .inv .0
-
-write-some-requires : tie.Need-write-some-requires Inv-loop μ-loop
-write-some-requires c κs = search needs
-
-moved-requires : tie.Need-moved-requires Inv-loop μ-loop
-moved-requires c κs = search needs
 
 add-at : tie.Need-add-at Inv-loop μ-loop
 add-at c =
@@ -61,24 +52,6 @@ loop-again c =
     let a = c .before .before .before .before .before .before .before .before .args in
     let m = mid-len (c .before .before .before .before .before .loop .at) (a .n) (a .text .now) (i .0) in (i .0, omega (arith, m, i .1, c .before .moved .ensures, c .before .before .write-some .ensures))
 
-returns : tie.Need-returns Inv-loop μ-loop
-returns c = search needs
-
 pub say-spec : {M : Type 1} → statement M
-say-spec =
-    tie.close
-    (tie.spec
-    Inv-loop
-    μ-loop
-    budget-requires
-    loop-holds
-    sub-write-some
-    part-write-some-start
-    part-write-some-end
-    write-some-requires
-    moved-requires
-    add-at
-    writes-left-requires
-    loop-less
-    loop-again
-    returns)
+say-spec = tie.close (tie.spec Inv-loop μ-loop (search needs) loop-holds sub-write-some part-write-some-start part-write-some-end (search needs) (search needs) add-at
+    writes-left-requires loop-less loop-again (λ c. search needs))

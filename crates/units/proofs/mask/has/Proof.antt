@@ -7,14 +7,5 @@ use Rattle.units.proofs.mask.has.Tie as tie
 returns : tie.Need-returns
 returns c = no-bit (c .before .args .mask) (c .before .args .i) (search needs) (search needs)
 
-cast-result : tie.Need-cast-result
-cast-result c = search needs
-
-shr-result : tie.Need-shr-result
-shr-result c = search needs
-
-returns-2 : tie.Need-returns-2
-returns-2 c = search needs
-
 pub has-spec : {M : Type 1} → statement M
-has-spec = tie.close (tie.spec returns cast-result shr-result returns-2)
+has-spec = tie.close (tie.spec returns (search needs) (search needs) (λ c. search needs))

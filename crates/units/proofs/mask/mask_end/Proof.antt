@@ -8,14 +8,8 @@ use Rattle.units.proofs.mask.mask_end.Tie as tie
 returns : tie.Need-returns
 returns c = sym (mask-end-full (c .before .args .m) (search needs))
 
-cast-result : tie.Need-cast-result
-cast-result c = search needs
-
-shl-result : tie.Need-shl-result
-shl-result c = search needs
-
 returns-2 : tie.Need-returns-2
 returns-2 c = shifted (c .before .args .m) (search needs)
 
 pub mask-end-spec : {M : Type 1} → statement M
-mask-end-spec = tie.close (tie.spec returns cast-result shl-result returns-2)
+mask-end-spec = tie.close (tie.spec returns (search needs) (search needs) returns-2)

@@ -7,12 +7,6 @@ use borrow.Author.Needs.{needs}
 use Rattle.vote.proofs.judge.decide.Statement.{statement}
 use Rattle.vote.proofs.judge.decide.Tie as tie
 
-in-range-requires : tie.Need-in-range-requires
-in-range-requires c κs = search needs
-
-ranks-of-requires : tie.Need-ranks-of-requires
-ranks-of-requires c κs = search needs
-
 rule-requires : tie.Need-rule-requires
 rule-requires c κs = groups (c .before .before .before .before .before .before .args .v) (sym (c .before .before .before .before .before .in-range .ensures) ∙ c .before .before .before .before .if1 .taken)
 
@@ -25,5 +19,4 @@ unfolding decision
 returns-2 c = by-no _ (sym (c .before .in-range .ensures) ∙ c .if1 .left) refl
 
 pub decide-spec : {M : Type 1} → statement M
-decide-spec =
-    tie.close (tie.spec in-range-requires ranks-of-requires rule-requires returns returns-2)
+decide-spec = tie.close (tie.spec (search needs) (search needs) rule-requires returns returns-2)

@@ -17,15 +17,9 @@ returns-2 : tie.Need-returns-2
 unfolding heldOff
 returns-2 c = by-no _ (ne-eqb _ 0 (c .before .if1 .left)) (sym (le-ltb (c .before .before .args .k * seat) (c .before .before .args .best - c .before .before .args .rival) (omega arith)))
 
-mul-result : tie.Need-mul-result
-mul-result c = search needs
-
-sub-result : tie.Need-sub-result
-sub-result c = search needs
-
 returns-3 : tie.Need-returns-3
 unfolding heldOff
 returns-3 c = by-no _ (ne-eqb _ 0 (c .before .if1 .left)) refl
 
 pub held-off-spec : {M : Type 1} → statement M
-held-off-spec = tie.close (tie.spec returns returns-2 mul-result sub-result returns-3)
+held-off-spec = tie.close (tie.spec returns returns-2 (search needs) (search needs) returns-3)

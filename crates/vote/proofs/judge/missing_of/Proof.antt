@@ -7,15 +7,6 @@ use borrow.Author.Needs.{needs}
 use Rattle.vote.proofs.judge.missing_of.Statement.{statement}
 use Rattle.vote.proofs.judge.missing_of.Tie as tie
 
-tally-requires : tie.Need-tally-requires
-tally-requires c κs = search needs
-
-sub-cast : tie.Need-sub-cast
-sub-cast c = search needs
-
-sub-result : tie.Need-sub-result
-sub-result c = search needs
-
 returns : tie.Need-returns
 unfolding missingOf
 returns c = (ap (λ (n : ℕ). c .before .before .args .g - (7 - n)) (c .before .tally .ensures .0), omega arith)
@@ -25,4 +16,4 @@ unfolding missingOf
 returns-2 c = let e = c .before .tally .ensures .0 in (omega arith, omega arith)
 
 pub missing-of-spec : {M : Type 1} → statement M
-missing-of-spec = tie.close (tie.spec tally-requires sub-cast sub-result returns returns-2)
+missing-of-spec = tie.close (tie.spec (search needs) (search needs) (search needs) returns returns-2)

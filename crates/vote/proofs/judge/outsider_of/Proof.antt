@@ -8,12 +8,6 @@ use borrow.Author.Needs.{needs}
 use Rattle.vote.proofs.judge.outsider_of.Statement.{statement}
 use Rattle.vote.proofs.judge.outsider_of.Tie as tie
 
-full-requires : tie.Need-full-requires
-full-requires c κs = search needs
-
-rank-requires : tie.Need-rank-requires
-rank-requires c κs = search needs
-
 returns : tie.Need-returns
 unfolding outsider pick
 returns c =
@@ -21,12 +15,6 @@ returns c =
     let e : c .before .rank .result ≡ rank (full (a .group .m) (a .label)) = c .before .rank .ensures ∙ ap rank (c .before .before .full .ensures) in
     let n : rank (full (a .group .m) (a .label)) ≡ a .x → ⊥ = λ q. c .if1 .taken (e ∙ q) in
     rw (ne-eqb _ _ n) e
-
-least-requires : tie.Need-least-requires
-least-requires c κs = search needs
-
-rank-requires-2 : tie.Need-rank-requires-2
-rank-requires-2 c κs = search needs
 
 returns-2 : tie.Need-returns-2
 unfolding outsider pick
@@ -46,13 +34,4 @@ returns-3 c =
     rw (eq-eqb _ _ e, eq-eqb _ _ o)
 
 pub outsider-of-spec : {M : Type 1} → statement M
-outsider-of-spec =
-    tie.close
-    (tie.spec
-    full-requires
-    rank-requires
-    returns
-    least-requires
-    rank-requires-2
-    returns-2
-    returns-3)
+outsider-of-spec = tie.close (tie.spec (search needs) (search needs) returns (search needs) (search needs) returns-2 returns-3)

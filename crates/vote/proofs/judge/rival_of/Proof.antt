@@ -7,12 +7,6 @@ use borrow.Author.Needs.{needs}
 use Rattle.vote.proofs.judge.rival_of.Statement.{statement}
 use Rattle.vote.proofs.judge.rival_of.Tie as tie
 
-largest-other-requires : tie.Need-largest-other-requires
-largest-other-requires c κs = search needs
-
-outsider-of-requires : tie.Need-outsider-of-requires
-outsider-of-requires c κs = search needs
-
 returns : tie.Need-returns
 unfolding rivalOf
 returns c = by-yes _ (eq-eqb _ 0 (sym (c .before .before .largest-other .ensures) ∙ c .before .if1 .taken)) (c .outsider-of .ensures)
@@ -22,5 +16,4 @@ unfolding rivalOf
 returns-2 c = by-no _ (ne-eqb _ 0 (λ z. c .if1 .left (c .before .largest-other .ensures ∙ z))) (c .before .largest-other .ensures)
 
 pub rival-of-spec : {M : Type 1} → statement M
-rival-of-spec =
-    tie.close (tie.spec largest-other-requires outsider-of-requires returns returns-2)
+rival-of-spec = tie.close (tie.spec (search needs) (search needs) returns returns-2)

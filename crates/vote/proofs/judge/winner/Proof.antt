@@ -7,21 +7,6 @@ use borrow.Author.Needs.{needs}
 use Rattle.vote.proofs.judge.winner.Statement.{statement}
 use Rattle.vote.proofs.judge.winner.Tie as tie
 
-in-range-requires : tie.Need-in-range-requires
-in-range-requires c κs = search needs
-
-ranks-of-requires : tie.Need-ranks-of-requires
-ranks-of-requires c κs = search needs
-
-strengths-of-requires : tie.Need-strengths-of-requires
-strengths-of-requires c κs = search needs
-
-largest-of-requires : tie.Need-largest-of-requires
-largest-of-requires c κs = search needs
-
-unrank-requires : tie.Need-unrank-requires
-unrank-requires c κs = search needs
-
 returns : tie.Need-returns
 unfolding winning
 returns c =
@@ -44,14 +29,4 @@ unfolding winning
 returns-3 c = by-no _ (sym (c .before .in-range .ensures) ∙ c .if1 .left) refl
 
 pub winner-spec : {M : Type 1} → statement M
-winner-spec =
-    tie.close
-    (tie.spec
-    in-range-requires
-    ranks-of-requires
-    strengths-of-requires
-    largest-of-requires
-    unrank-requires
-    returns
-    returns-2
-    returns-3)
+winner-spec = tie.close (tie.spec (search needs) (search needs) (search needs) (search needs) (search needs) returns returns-2 returns-3)

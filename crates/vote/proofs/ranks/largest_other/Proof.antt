@@ -18,24 +18,6 @@ abbrev μ-loop : tie.MeasureT-loop
 loop-holds : tie.Need-loop-holds Inv-loop μ-loop
 loop-holds c = (omega arith, omega arith)
 
-mul-other-than : tie.Need-mul-other-than Inv-loop μ-loop
-mul-other-than c = search needs
-
-array-read-other-than : tie.Need-array-read-other-than Inv-loop μ-loop
-array-read-other-than c = search needs
-
-other-than-requires : tie.Need-other-than-requires Inv-loop μ-loop
-other-than-requires c κs = search needs
-
-larger-requires : tie.Need-larger-requires Inv-loop μ-loop
-larger-requires c κs = search needs
-
-add-i : tie.Need-add-i Inv-loop μ-loop
-add-i c = omega arith
-
-loop-less : tie.Need-loop-less Inv-loop μ-loop
-loop-less c = omega arith
-
 loop-again : tie.Need-loop-again Inv-loop μ-loop
 unfolding largest
 loop-again c =
@@ -55,17 +37,5 @@ returns c =
     largest-end (λ l. largest (othersThan x l)) (otherThan x) refl (λ y l. refl) l i _ _ h (c .before .loop .inv .1)
 
 pub largest-other-spec : {M : Type 1} → statement M
-largest-other-spec =
-    tie.close
-    (tie.spec
-    Inv-loop
-    μ-loop
-    loop-holds
-    mul-other-than
-    array-read-other-than
-    other-than-requires
-    larger-requires
-    add-i
-    loop-less
-    loop-again
-    returns)
+largest-other-spec = tie.close (tie.spec Inv-loop μ-loop loop-holds (search needs) (search needs) (search needs) (search needs) (λ c. omega arith) (λ c. omega arith)
+    loop-again returns)

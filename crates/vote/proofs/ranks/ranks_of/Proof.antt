@@ -20,27 +20,6 @@ abbrev μ-loop : tie.MeasureT-loop
 loop-holds : tie.Need-loop-holds Inv-loop μ-loop
 loop-holds c = (omega arith, refl, refl)
 
-mul-seat : tie.Need-mul-seat Inv-loop μ-loop
-mul-seat c = search needs
-
-array-copy-out-seat : tie.Need-array-copy-out-seat Inv-loop μ-loop
-array-copy-out-seat c = search needs
-
-rank-requires : tie.Need-rank-requires Inv-loop μ-loop
-rank-requires c κs = search needs
-
-mul-ranks : tie.Need-mul-ranks Inv-loop μ-loop
-mul-ranks c = search needs
-
-array-write-ranks : tie.Need-array-write-ranks Inv-loop μ-loop
-array-write-ranks c = search needs
-
-add-i : tie.Need-add-i Inv-loop μ-loop
-add-i c = omega arith
-
-loop-less : tie.Need-loop-less Inv-loop μ-loop
-loop-less c = omega arith
-
 loop-again : tie.Need-loop-again Inv-loop μ-loop
 loop-again c =
     let l = c .before .before .before .before .args .t1 in
@@ -60,18 +39,5 @@ returns c =
     built-end (λ s. rankOf (s .ballot)) l _ i h k (v .2)
 
 pub ranks-of-spec : {M : Type 1} → statement M
-ranks-of-spec =
-    tie.close
-    (tie.spec
-    Inv-loop
-    μ-loop
-    loop-holds
-    mul-seat
-    array-copy-out-seat
-    rank-requires
-    mul-ranks
-    array-write-ranks
-    add-i
-    loop-less
-    loop-again
-    returns)
+ranks-of-spec = tie.close (tie.spec Inv-loop μ-loop loop-holds (search needs) (search needs) (search needs) (search needs) (search needs) (λ c. omega arith)
+    (λ c. omega arith) loop-again returns)

@@ -12,18 +12,9 @@ returns : tie.Need-returns
 unfolding strengthOf pick
 returns c = rw (eq-eqb _ _ (c .if1 .taken))
 
-tally-requires : tie.Need-tally-requires
-tally-requires c κs = search needs
-
-mul-result : tie.Need-mul-result
-mul-result c = search needs
-
-add-result : tie.Need-add-result
-add-result c = search needs
-
 returns-2 : tie.Need-returns-2
 unfolding strengthOf pick
 returns-2 c = rw (ne-eqb _ _ (c .before .if1 .left)) (ap (λ (n : ℕ). n * seat + c .before .before .args .x % seat) (c .tally .ensures .0))
 
 pub strength-spec : {M : Type 1} → statement M
-strength-spec = tie.close (tie.spec returns tally-requires mul-result add-result returns-2)
+strength-spec = tie.close (tie.spec returns (search needs) (search needs) (search needs) returns-2)

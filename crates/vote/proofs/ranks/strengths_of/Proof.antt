@@ -19,27 +19,6 @@ abbrev μ-loop : tie.MeasureT-loop
 loop-holds : tie.Need-loop-holds Inv-loop μ-loop
 loop-holds c = (omega arith, refl, refl)
 
-mul-strength : tie.Need-mul-strength Inv-loop μ-loop
-mul-strength c = search needs
-
-array-read-strength : tie.Need-array-read-strength Inv-loop μ-loop
-array-read-strength c = search needs
-
-strength-requires : tie.Need-strength-requires Inv-loop μ-loop
-strength-requires c κs = search needs
-
-mul-found : tie.Need-mul-found Inv-loop μ-loop
-mul-found c = search needs
-
-array-write-found : tie.Need-array-write-found Inv-loop μ-loop
-array-write-found c = search needs
-
-add-i : tie.Need-add-i Inv-loop μ-loop
-add-i c = omega arith
-
-loop-less : tie.Need-loop-less Inv-loop μ-loop
-loop-less c = omega arith
-
 loop-again : tie.Need-loop-again Inv-loop μ-loop
 loop-again c =
     let l = c .before .before .before .args .t1 in
@@ -59,18 +38,5 @@ returns c =
     built-end (strengthOf l) l _ i h k (v .2)
 
 pub strengths-of-spec : {M : Type 1} → statement M
-strengths-of-spec =
-    tie.close
-    (tie.spec
-    Inv-loop
-    μ-loop
-    loop-holds
-    mul-strength
-    array-read-strength
-    strength-requires
-    mul-found
-    array-write-found
-    add-i
-    loop-less
-    loop-again
-    returns)
+strengths-of-spec = tie.close (tie.spec Inv-loop μ-loop loop-holds (search needs) (search needs) (search needs) (search needs) (search needs) (λ c. omega arith)
+    (λ c. omega arith) loop-again returns)

@@ -18,23 +18,8 @@ abbrev μ-loop : tie.MeasureT-loop
 loop-holds : tie.Need-loop-holds Inv-loop μ-loop
 loop-holds c = (omega arith, omega arith, omega arith)
 
-mul-one-where-same : tie.Need-mul-one-where-same Inv-loop μ-loop
-mul-one-where-same c = search needs
-
-array-read-one-where-same : tie.Need-array-read-one-where-same Inv-loop μ-loop
-array-read-one-where-same c = search needs
-
-one-where-same-requires : tie.Need-one-where-same-requires Inv-loop μ-loop
-one-where-same-requires c κs = search needs
-
 add-n : tie.Need-add-n Inv-loop μ-loop
 add-n c = omega (arith, c .one-where-same .ensures .1)
-
-add-i : tie.Need-add-i Inv-loop μ-loop
-add-i c = omega arith
-
-loop-less : tie.Need-loop-less Inv-loop μ-loop
-loop-less c = omega arith
 
 loop-again : tie.Need-loop-again Inv-loop μ-loop
 loop-again c =
@@ -47,17 +32,4 @@ returns : tie.Need-returns Inv-loop μ-loop
 returns c = let l = c .before .before .args .t1 in let i = c .before .loop .i in let h : length l ≤ i = omega arith in (tally-end _ l i _ _ h (c .before .loop .inv .2), omega arith)
 
 pub tally-spec : {M : Type 1} → statement M
-tally-spec =
-    tie.close
-    (tie.spec
-    Inv-loop
-    μ-loop
-    loop-holds
-    mul-one-where-same
-    array-read-one-where-same
-    one-where-same-requires
-    add-n
-    add-i
-    loop-less
-    loop-again
-    returns)
+tally-spec = tie.close (tie.spec Inv-loop μ-loop loop-holds (search needs) (search needs) (search needs) add-n (λ c. omega arith) (λ c. omega arith) loop-again returns)

@@ -9,17 +9,8 @@ use borrow.Author.Needs.{needs}
 use Rattle.vote.proofs.votes.put_vote.Statement.{statement}
 use Rattle.vote.proofs.votes.put_vote.Tie as tie
 
-mul-next : tie.Need-mul-next
-mul-next c = search needs
-
-array-set-from-next : tie.Need-array-set-from-next
-array-set-from-next c = search needs
-
-returns : tie.Need-returns
-returns c = search needs
-
 returns-2 : tie.Need-returns-2
 returns-2 c = let l = c .before .args .votes in let h : length l ≤ c .before .args .seat = omega arith in sym (set-out l (c .before .args .seat) (record { ballot = Cast (c .before .args .digest) }) h)
 
 pub put-vote-spec : {M : Type 1} → statement M
-put-vote-spec = tie.close (tie.spec mul-next array-set-from-next returns returns-2)
+put-vote-spec = tie.close (tie.spec (search needs) (search needs) (λ c. search needs) returns-2)

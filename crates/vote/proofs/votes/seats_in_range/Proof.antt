@@ -21,21 +21,6 @@ loop-holds : tie.Need-loop-holds Inv-loop μ-loop
 unfolding every
 loop-holds c = (omega arith, refl)
 
-mul-seat : tie.Need-mul-seat Inv-loop μ-loop
-mul-seat c = search needs
-
-array-copy-out-seat : tie.Need-array-copy-out-seat Inv-loop μ-loop
-array-copy-out-seat c = search needs
-
-in-range-requires : tie.Need-in-range-requires Inv-loop μ-loop
-in-range-requires c κs = search needs
-
-add-i : tie.Need-add-i Inv-loop μ-loop
-add-i c = omega arith
-
-loop-less : tie.Need-loop-less Inv-loop μ-loop
-loop-less c = omega arith
-
 loop-again : tie.Need-loop-again Inv-loop μ-loop
 loop-again c =
     let a = c .before .before .before .before .before .args in
@@ -50,16 +35,4 @@ returns c =
     rw (eq-eqb (length (a .t1)) 7 long) (c .before .loop .inv .1 ∙ ap (every (seatAt (a .group) (a .label) (a .t1))) e)
 
 pub seats-in-range-spec : {M : Type 1} → statement M
-seats-in-range-spec =
-    tie.close
-    (tie.spec
-    Inv-loop
-    μ-loop
-    loop-holds
-    mul-seat
-    array-copy-out-seat
-    in-range-requires
-    add-i
-    loop-less
-    loop-again
-    returns)
+seats-in-range-spec = tie.close (tie.spec Inv-loop μ-loop loop-holds (search needs) (search needs) (search needs) (λ c. omega arith) (λ c. omega arith) loop-again returns)

@@ -10,15 +10,6 @@ use borrow.Author.Needs.{needs}
 use Rattle.controller.proofs.state.Controller.add.Statement.{statement}
 use Rattle.controller.proofs.state.Controller.add.Tie as tie
 
-mul-self : tie.Need-mul-self
-mul-self c = search needs
-
-element-write-self : tie.Need-element-write-self
-element-write-self c = search needs
-
-run-bit-requires : tie.Need-run-bit-requires
-run-bit-requires c κs = search needs
-
 returns : tie.Need-returns
 returns c =
     let a = c .before .before .args in
@@ -28,4 +19,4 @@ returns c =
     (c .before .if1 .came)
 
 pub add-spec : {M : Type 1} → statement M
-add-spec = tie.close (tie.spec mul-self element-write-self run-bit-requires returns)
+add-spec = tie.close (tie.spec (search needs) (search needs) (search needs) returns)

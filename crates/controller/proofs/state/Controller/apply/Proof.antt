@@ -8,60 +8,6 @@ use borrow.Author.Needs.{needs}
 use Rattle.controller.proofs.state.Controller.apply.Statement.{statement}
 use Rattle.controller.proofs.state.Controller.apply.Tie as tie
 
-enum-told : tie.Need-enum-told
-enum-told c = search needs
-
-enum-known-effect : tie.Need-enum-known-effect
-enum-known-effect c = search needs
-
-go-requires : tie.Need-go-requires
-go-requires c κs = search needs
-
-enum-known-effect-2 : tie.Need-enum-known-effect-2
-enum-known-effect-2 c = search needs
-
-begin-round-requires : tie.Need-begin-round-requires
-begin-round-requires c κs = search needs
-
-enum-known-effect-3 : tie.Need-enum-known-effect-3
-enum-known-effect-3 c = search needs
-
-add-requires : tie.Need-add-requires
-add-requires c κs = search needs
-
-enum-known-effect-4 : tie.Need-enum-known-effect-4
-enum-known-effect-4 c = search needs
-
-merge-requires : tie.Need-merge-requires
-merge-requires c κs = search needs
-
-enum-known-effect-5 : tie.Need-enum-known-effect-5
-enum-known-effect-5 c = search needs
-
-adopt-requires : tie.Need-adopt-requires
-adopt-requires c κs = search needs
-
-enum-known-effect-6 : tie.Need-enum-known-effect-6
-enum-known-effect-6 c = search needs
-
-count-requires : tie.Need-count-requires
-count-requires c κs = search needs
-
-enum-known-effect-7 : tie.Need-enum-known-effect-7
-enum-known-effect-7 c = search needs
-
-count-requires-2 : tie.Need-count-requires-2
-count-requires-2 c κs = search needs
-
-issue-requires : tie.Need-issue-requires
-issue-requires c κs = search needs
-
-enum-known-effect-8 : tie.Need-enum-known-effect-8
-enum-known-effect-8 c = search needs
-
-begin-requires : tie.Need-begin-requires
-begin-requires c κs = search needs
-
 returns : tie.Need-returns
 unfolding applied
 returns c = along (applied (c .before .before .before .before .args .numbers) (c .before .before .before .before .args .message) (c .before .before .before .before .args .self)) (c .enum-told .given .1) (refl)
@@ -101,33 +47,6 @@ unfolding applied
 returns-9 c = along (applied (c .before .before .before .before .before .before .args .numbers) (c .before .before .before .before .before .before .args .message) (c .before .before .before .before .before .before .args .self)) (c .before .before .effect8 .given .1) (c .begin .ensures)
 
 pub apply-spec : {M : Type 1} → statement M
-apply-spec =
-    tie.close
-    (tie.spec
-    enum-told
-    enum-known-effect
-    go-requires
-    enum-known-effect-2
-    begin-round-requires
-    enum-known-effect-3
-    add-requires
-    enum-known-effect-4
-    merge-requires
-    enum-known-effect-5
-    adopt-requires
-    enum-known-effect-6
-    count-requires
-    enum-known-effect-7
-    count-requires-2
-    issue-requires
-    enum-known-effect-8
-    begin-requires
-    returns
-    returns-2
-    returns-3
-    returns-4
-    returns-5
-    returns-6
-    returns-7
-    returns-8
-    returns-9)
+apply-spec = tie.close (tie.spec (search needs) (search needs) (search needs) (search needs) (search needs) (search needs) (search needs) (search needs) (search needs)
+    (search needs) (search needs) (search needs) (search needs) (search needs) (search needs) (search needs) (search needs) (search needs) returns returns-2 returns-3
+    returns-4 returns-5 returns-6 returns-7 returns-8 returns-9)

@@ -10,17 +10,8 @@ use borrow.Author.Needs.{needs}
 use Rattle.controller.proofs.state.Controller.ballot.Statement.{statement}
 use Rattle.controller.proofs.state.Controller.ballot.Tie as tie
 
-mul-s : tie.Need-mul-s
-mul-s c = search needs
-
-element-copy-out-s : tie.Need-element-copy-out-s
-element-copy-out-s c = search needs
-
-returns : tie.Need-returns
-returns c = search needs
-
 returns-2 : tie.Need-returns-2
 returns-2 c = let v = c .before .args .t1 .votes in let seven : length v ≡ 7 = search (c .before .good, length-mapped) in let h : length v ≤ c .before .args .seat = omega arith in sym (ap (λ (s : Seat). s .ballot) (List·getD-eq-default v nobody {n = c .before .args .seat} h))
 
 pub ballot-spec : {M : Type 1} → statement M
-ballot-spec = tie.close (tie.spec mul-s element-copy-out-s returns returns-2)
+ballot-spec = tie.close (tie.spec (search needs) (search needs) (λ c. search needs) returns-2)

@@ -7,12 +7,9 @@ use borrow.Author.Needs.{needs}
 use Rattle.controller.proofs.state.Controller.begin.Statement.{statement}
 use Rattle.controller.proofs.state.Controller.begin.Tie as tie
 
-start-estimates-requires : tie.Need-start-estimates-requires
-start-estimates-requires c κs = search needs
-
 returns : tie.Need-returns
 unfolding startOf
 returns c = let a = c .before .args in λ i. record { own = a .own; phase = Idle; label = a .floor; state = record { 0 = 0 }; estimates = (c .start-estimates .ensures) i; held = 0; readings = replicate 16 0; votes = replicate 7 nobody }
 
 pub begin-spec : {M : Type 1} → statement M
-begin-spec = tie.close (tie.spec start-estimates-requires returns)
+begin-spec = tie.close (tie.spec (search needs) returns)

@@ -6,14 +6,8 @@ use borrow.Author.Needs.{needs}
 use Rattle.controller.proofs.state.Controller.begin_round.Statement.{statement}
 use Rattle.controller.proofs.state.Controller.begin_round.Tie as tie
 
-put-reading-requires : tie.Need-put-reading-requires
-put-reading-requires c κs = search needs
-
-run-bit-requires : tie.Need-run-bit-requires
-run-bit-requires c κs = search needs
-
 returns : tie.Need-returns
 returns c = let a = c .before .before .before .before .args in λ i. record { own = a .self .own; phase = Collecting; label = a .label; state = a .self .state; estimates = a .self .estimates; held = (c .run-bit .ensures) i; readings = (c .before .put-reading .ensures) i; votes = replicate 7 nobody }
 
 pub begin-round-spec : {M : Type 1} → statement M
-begin-round-spec = tie.close (tie.spec put-reading-requires run-bit-requires returns)
+begin-round-spec = tie.close (tie.spec (search needs) (search needs) returns)

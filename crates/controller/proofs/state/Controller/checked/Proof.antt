@@ -6,12 +6,6 @@ use borrow.Author.Needs.{needs}
 use Rattle.controller.proofs.state.Controller.checked.Statement.{statement}
 use Rattle.controller.proofs.state.Controller.checked.Tie as tie
 
-inputs-in-range-requires : tie.Need-inputs-in-range-requires
-inputs-in-range-requires c κs = search needs
-
-advance-requires : tie.Need-advance-requires
-advance-requires c κs = search needs
-
 returns : tie.Need-returns
 unfolding stepped
 returns c = by-yes _ (sym (c .before .before .inputs-in-range .ensures) ∙ c .before .if1 .taken) (c .advance .ensures)
@@ -21,4 +15,4 @@ unfolding stepped
 returns-2 c = by-no _ (sym (c .before .inputs-in-range .ensures) ∙ c .if1 .left) refl
 
 pub checked-spec : {M : Type 1} → statement M
-checked-spec = tie.close (tie.spec inputs-in-range-requires advance-requires returns returns-2)
+checked-spec = tie.close (tie.spec (search needs) (search needs) returns returns-2)

@@ -5,11 +5,8 @@ use borrow.Author.Needs.{needs}
 use Rattle.controller.proofs.state.Controller.clashes.Statement.{statement}
 use Rattle.controller.proofs.state.Controller.clashes.Tie as tie
 
-readings-agree-requires : tie.Need-readings-agree-requires
-readings-agree-requires c κs = search needs
-
 returns : tie.Need-returns
 returns c = ap not (c .readings-agree .ensures)
 
 pub clashes-spec : {M : Type 1} → statement M
-clashes-spec = tie.close (tie.spec readings-agree-requires returns)
+clashes-spec = tie.close (tie.spec (search needs) returns)

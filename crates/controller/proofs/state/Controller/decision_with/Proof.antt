@@ -7,14 +7,8 @@ use borrow.Author.Needs.{needs}
 use Rattle.controller.proofs.state.Controller.decision_with.Statement.{statement}
 use Rattle.controller.proofs.state.Controller.decision_with.Tie as tie
 
-put-vote-requires : tie.Need-put-vote-requires
-put-vote-requires c κs = search needs
-
-decide-requires : tie.Need-decide-requires
-decide-requires c κs = search needs
-
 returns : tie.Need-returns
 returns c = let a = c .before .before .before .before .before .args in c .decide .ensures ∙ ap (λ (l : List Seat). decision (record { group = a .numbers .group; label = a .self .label; seats = l })) (c .before .put-vote .ensures)
 
 pub decision-with-spec : {M : Type 1} → statement M
-decision-with-spec = tie.close (tie.spec put-vote-requires decide-requires returns)
+decision-with-spec = tie.close (tie.spec (search needs) (search needs) returns)

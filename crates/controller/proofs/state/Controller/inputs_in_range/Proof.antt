@@ -6,19 +6,9 @@ use borrow.Author.Needs.{needs}
 use Rattle.controller.proofs.state.Controller.inputs_in_range.Statement.{statement}
 use Rattle.controller.proofs.state.Controller.inputs_in_range.Tie as tie
 
-in-range-requires : tie.Need-in-range-requires
-in-range-requires c κs = search needs
-
-in-range-requires-2 : tie.Need-in-range-requires-2
-in-range-requires-2 c κs = search needs
-
-in-range-requires-3 : tie.Need-in-range-requires-3
-in-range-requires-3 c κs = search needs
-
 returns : tie.Need-returns
 unfolding inputsFit
 returns c = ap₂ _&&_ (ap₂ _&&_ (c .before .before .in-range .ensures) (c .before .in-range2 .ensures)) (c .in-range3 .ensures)
 
 pub inputs-in-range-spec : {M : Type 1} → statement M
-inputs-in-range-spec =
-    tie.close (tie.spec in-range-requires in-range-requires-2 in-range-requires-3 returns)
+inputs-in-range-spec = tie.close (tie.spec (search needs) (search needs) (search needs) returns)

@@ -9,17 +9,8 @@ use borrow.Author.Needs.{needs}
 use Rattle.controller.proofs.state.Controller.issue.Statement.{statement}
 use Rattle.controller.proofs.state.Controller.issue.Tie as tie
 
-state-after-requires : tie.Need-state-after-requires
-state-after-requires c κs = search needs
-
-issued-requires : tie.Need-issued-requires
-issued-requires c κs = search needs
-
-adopt-requires : tie.Need-adopt-requires
-adopt-requires c κs = search needs
-
 returns : tie.Need-returns
 returns c = let a = c .before .before .before .before .before .before .before .args in c .adopt .ensures ∙ ap₂ (λ (s : StateLabel) (es : List Estimate). adopting (a .self) s es Idle) (c .before .issued .ensures) (c .before .before .state-after .ensures)
 
 pub issue-spec : {M : Type 1} → statement M
-issue-spec = tie.close (tie.spec state-after-requires issued-requires adopt-requires returns)
+issue-spec = tie.close (tie.spec (search needs) (search needs) (search needs) returns)

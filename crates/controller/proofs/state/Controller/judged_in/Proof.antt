@@ -9,27 +9,6 @@ use borrow.Author.Needs.{needs}
 use Rattle.controller.proofs.state.Controller.judged_in.Statement.{statement}
 use Rattle.controller.proofs.state.Controller.judged_in.Tie as tie
 
-enum-told : tie.Need-enum-told
-enum-told c = search needs
-
-enum-told-2 : tie.Need-enum-told-2
-enum-told-2 c = search needs
-
-enum-told-3 : tie.Need-enum-told-3
-enum-told-3 c = search needs
-
-enum-told-4 : tie.Need-enum-told-4
-enum-told-4 c = search needs
-
-decision-with-requires : tie.Need-decision-with-requires
-decision-with-requires c κs = search needs
-
-brief-requires : tie.Need-brief-requires
-brief-requires c κs = search needs
-
-judge-requires : tie.Need-judge-requires
-judge-requires c κs = search needs
-
 returns : tie.Need-returns
 unfolding judgedIn
 returns c = along (judgedIn (c .before .before .args .numbers) (c .before .before .args .self) (c .before .before .args .plan) (c .before .before .args .seat) (c .before .before .args .digest)) (c .enum-told .given .1) (refl)
@@ -51,17 +30,5 @@ returns-4 c =
     (judged (briefOf (a .self)) (a .seat) (a .digest) (a .plan .first)) (c .before .before .decision-with .ensures))
 
 pub judged-in-spec : {M : Type 1} → statement M
-judged-in-spec =
-    tie.close
-    (tie.spec
-    enum-told
-    enum-told-2
-    enum-told-3
-    enum-told-4
-    decision-with-requires
-    brief-requires
-    judge-requires
-    returns
-    returns-2
-    returns-3
+judged-in-spec = tie.close (tie.spec (search needs) (search needs) (search needs) (search needs) (search needs) (search needs) (search needs) returns returns-2 returns-3
     returns-4)

@@ -6,36 +6,6 @@ use borrow.Author.Needs.{needs}
 use Rattle.controller.proofs.state.Controller.judged_plan.Statement.{statement}
 use Rattle.controller.proofs.state.Controller.judged_plan.Tie as tie
 
-enum-told : tie.Need-enum-told
-enum-told c = search needs
-
-enum-told-2 : tie.Need-enum-told-2
-enum-told-2 c = search needs
-
-enum-told-3 : tie.Need-enum-told-3
-enum-told-3 c = search needs
-
-enum-told-4 : tie.Need-enum-told-4
-enum-told-4 c = search needs
-
-enum-told-5 : tie.Need-enum-told-5
-enum-told-5 c = search needs
-
-enum-told-6 : tie.Need-enum-told-6
-enum-told-6 c = search needs
-
-enum-known-effect : tie.Need-enum-known-effect
-enum-known-effect c = search needs
-
-judged-in-requires : tie.Need-judged-in-requires
-judged-in-requires c κs = search needs
-
-enum-told-7 : tie.Need-enum-told-7
-enum-told-7 c = search needs
-
-enum-told-8 : tie.Need-enum-told-8
-enum-told-8 c = search needs
-
 returns : tie.Need-returns
 unfolding judgedPlan
 returns c = along (judgedPlan (c .before .before .args .numbers) (c .before .before .args .self) (c .before .before .args .plan)) (c .enum-told .given .1) (refl)
@@ -73,25 +43,5 @@ unfolding judgedPlan
 returns-9 c = along (judgedPlan (c .before .before .args .numbers) (c .before .before .args .self) (c .before .before .args .plan)) (c .enum-told8 .given .1) (refl)
 
 pub judged-plan-spec : {M : Type 1} → statement M
-judged-plan-spec =
-    tie.close
-    (tie.spec
-    enum-told
-    enum-told-2
-    enum-told-3
-    enum-told-4
-    enum-told-5
-    enum-told-6
-    enum-known-effect
-    judged-in-requires
-    enum-told-7
-    enum-told-8
-    returns
-    returns-2
-    returns-3
-    returns-4
-    returns-5
-    returns-6
-    returns-7
-    returns-8
-    returns-9)
+judged-plan-spec = tie.close (tie.spec (search needs) (search needs) (search needs) (search needs) (search needs) (search needs) (search needs) (search needs)
+    (search needs) (search needs) returns returns-2 returns-3 returns-4 returns-5 returns-6 returns-7 returns-8 returns-9)

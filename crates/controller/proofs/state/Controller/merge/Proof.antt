@@ -8,14 +8,8 @@ use borrow.Author.Needs.{needs}
 use Rattle.controller.proofs.state.Controller.merge.Statement.{statement}
 use Rattle.controller.proofs.state.Controller.merge.Tie as tie
 
-merge-readings-requires : tie.Need-merge-readings-requires
-merge-readings-requires c κs = search needs
-
-holding-requires : tie.Need-holding-requires
-holding-requires c κs = search needs
-
 returns : tie.Need-returns
 returns c = let a = c .before .before .before .before .args .self in c .holding .ensures ∙ ap (λ (x : List ℕ). holding a (carriedBy (bitOr (a .held) (c .before .before .before .before .args .mask)) x)) (c .before .before .merge-readings .ensures)
 
 pub merge-spec : {M : Type 1} → statement M
-merge-spec = tie.close (tie.spec merge-readings-requires holding-requires returns)
+merge-spec = tie.close (tie.spec (search needs) (search needs) returns)

@@ -9,27 +9,6 @@ use borrow.Author.Needs.{needs}
 use Rattle.controller.proofs.state.Controller.message.Statement.{statement}
 use Rattle.controller.proofs.state.Controller.message.Tie as tie
 
-enum-known-head : tie.Need-enum-known-head
-enum-known-head c = search needs
-
-reply-requires : tie.Need-reply-requires
-reply-requires c κs = search needs
-
-enum-told : tie.Need-enum-told
-enum-told c = search needs
-
-update-requires : tie.Need-update-requires
-update-requires c κs = search needs
-
-enum-told-2 : tie.Need-enum-told-2
-enum-told-2 c = search needs
-
-setpoints-requires : tie.Need-setpoints-requires
-setpoints-requires c κs = search needs
-
-plain-requires : tie.Need-plain-requires
-plain-requires c κs = search needs
-
 returns : tie.Need-returns
 unfolding sentMessage
 returns c =
@@ -50,17 +29,5 @@ unfolding sentMessage
 returns-4 c = let n = not-carrying (c .before .before .args .head) (c .before .match .keys4) in rw (n .0, n .1, n .2) (c .plain .ensures)
 
 pub message-spec : {M : Type 1} → statement M
-message-spec =
-    tie.close
-    (tie.spec
-    enum-known-head
-    reply-requires
-    enum-told
-    update-requires
-    enum-told-2
-    setpoints-requires
-    plain-requires
-    returns
-    returns-2
-    returns-3
+message-spec = tie.close (tie.spec (search needs) (search needs) (search needs) (search needs) (search needs) (search needs) (search needs) returns returns-2 returns-3
     returns-4)

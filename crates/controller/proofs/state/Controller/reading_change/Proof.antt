@@ -10,18 +10,6 @@ use borrow.Author.Needs.{needs}
 use Rattle.controller.proofs.state.Controller.reading_change.Statement.{statement}
 use Rattle.controller.proofs.state.Controller.reading_change.Tie as tie
 
-brief-requires : tie.Need-brief-requires
-brief-requires c κs = search needs
-
-reading-requires : tie.Need-reading-requires
-reading-requires c κs = search needs
-
-on-reading-requires : tie.Need-on-reading-requires
-on-reading-requires c κs = search needs
-
-change-requires : tie.Need-change-requires
-change-requires c κs = search needs
-
 returns : tie.Need-returns
 returns c =
     let a = c .before .before .before .before .args in
@@ -31,6 +19,4 @@ returns c =
     ∙ ap (λ (n : ℕ). changeOf (planReading (briefOf (a .self)) n (a .label) (a .run) (a .raw) .effect)) (c .before .before .reading .ensures)
 
 pub reading-change-spec : {M : Type 1} → statement M
-reading-change-spec =
-    tie.close
-    (tie.spec brief-requires reading-requires on-reading-requires change-requires returns)
+reading-change-spec = tie.close (tie.spec (search needs) (search needs) (search needs) (search needs) returns)

@@ -10,15 +10,6 @@ use borrow.Author.Needs.{needs}
 use Rattle.controller.proofs.state.Controller.start.Statement.{statement}
 use Rattle.controller.proofs.state.Controller.start.Tie as tie
 
-begin-requires : tie.Need-begin-requires
-begin-requires c κs = search needs
-
-in-range-requires : tie.Need-in-range-requires
-in-range-requires c κs = search needs
-
-floor-in-range-requires : tie.Need-floor-in-range-requires
-floor-in-range-requires c κs = search needs
-
 returns : tie.Need-returns
 unfolding started
 returns c =
@@ -34,5 +25,4 @@ returns-2 c =
     ∙ c .if1 .left in λ i. record { verdict = (by-no {r = Refused Range} Taken t refl) i; controller = (c .before .before .before .before .begin .ensures) i }
 
 pub start-spec : {M : Type 1} → statement M
-start-spec =
-    tie.close (tie.spec begin-requires in-range-requires floor-in-range-requires returns returns-2)
+start-spec = tie.close (tie.spec (search needs) (search needs) (search needs) returns returns-2)

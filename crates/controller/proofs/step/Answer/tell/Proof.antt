@@ -16,31 +16,11 @@ made : (s : Numbers) (r : Answer) (n k : ℕ) (one two : Message) → n ≡ sent
 unfolding told
 made s r n k one two p q u v = λ i. record { next = r .next; sent = p i + q i; first = u i; second = v i; verdict = r .verdict }
 
-number-sent-requires : tie.Need-number-sent-requires
-number-sent-requires c κs = search needs
-
-number-sent-requires-2 : tie.Need-number-sent-requires-2
-number-sent-requires-2 c κs = search needs
-
 add-sent : tie.Need-add-sent
 add-sent c = omega (arith, c .before .number-sent .ensures .1, c .number-sent2 .ensures .1)
-
-whole-requires : tie.Need-whole-requires
-whole-requires c κs = search needs
-
-whole-requires-2 : tie.Need-whole-requires-2
-whole-requires-2 c κs = search needs
 
 returns : tie.Need-returns
 returns c = made _ _ _ _ _ _ (c .before .before .before .number-sent .ensures .0) (c .before .before .number-sent2 .ensures .0) (c .before .whole .ensures) (c .whole2 .ensures)
 
 pub tell-spec : {M : Type 1} → statement M
-tell-spec =
-    tie.close
-    (tie.spec
-    number-sent-requires
-    number-sent-requires-2
-    add-sent
-    whole-requires
-    whole-requires-2
-    returns)
+tell-spec = tie.close (tie.spec (search needs) (search needs) add-sent (search needs) (search needs) returns)

@@ -7,12 +7,6 @@ use borrow.Author.Needs.{needs}
 use Rattle.fields.proofs.cut.Carry.cut.Statement.{statement}
 use Rattle.fields.proofs.cut.Carry.cut.Tie as tie
 
-scan-requires : tie.Need-scan-requires
-scan-requires c κs = search needs
-
-hold-requires : tie.Need-hold-requires
-hold-requires c κs = search needs
-
 returns : tie.Need-returns
 unfolding scanned
 returns c = let a = c .before .before .before .before .args in cut-none-made (a .self) (c .hold .result) (a .piece .now) _ (ap (λ s. s .feed) (c .before .before .scan .ensures)) (c .before .if1 .taken) (c .hold .ensures)
@@ -20,9 +14,6 @@ returns c = let a = c .before .before .before .before .args in cut-none-made (a 
 add-hold : tie.Need-add-hold
 unfolding scanned
 add-hold c = let w = feed-within (c .before .before .before .args .piece .now) _ (ap (λ s. s .feed) (c .before .scan .ensures)) in omega (arith, w, c .if1 .left)
-
-hold-requires-2 : tie.Need-hold-requires-2
-hold-requires-2 c κs = search needs
 
 add-t7 : tie.Need-add-t7
 unfolding scanned
@@ -33,6 +24,4 @@ unfolding scanned
 returns-2 c = let a = c .before .before .before .before .args in cut-made (a .self) (c .hold2 .result) (a .piece .now) _ (ap (λ s. s .feed) (c .before .before .scan .ensures)) (c .before .if1 .left) (c .hold2 .ensures)
 
 pub cut-spec : {M : Type 1} → statement M
-cut-spec =
-    tie.close
-    (tie.spec scan-requires hold-requires returns add-hold hold-requires-2 add-t7 returns-2)
+cut-spec = tie.close (tie.spec (search needs) (search needs) returns add-hold (search needs) add-t7 returns-2)

@@ -7,23 +7,8 @@ use borrow.Author.Needs.{needs}
 use Rattle.fields.proofs.cut.Carry.hold.Statement.{statement}
 use Rattle.fields.proofs.cut.Carry.hold.Tie as tie
 
-fitting-requires : tie.Need-fitting-requires
-fitting-requires c κs = search needs
-
-slice-aggregate-put-part : tie.Need-slice-aggregate-put-part
-slice-aggregate-put-part c = search needs
-
-put-part-requires : tie.Need-put-part-requires
-put-part-requires c κs = search needs
-
-slice-aggregate-put-part-2 : tie.Need-slice-aggregate-put-part-2
-slice-aggregate-put-part-2 c = search needs
-
 slice-aggregate-put-part-3 : tie.Need-slice-aggregate-put-part-3
 slice-aggregate-put-part-3 c = sym (length-take-le _ _ (omega arith))
-
-put-part-requires-2 : tie.Need-put-part-requires-2
-put-part-requires-2 c κs = search needs
 
 returns : tie.Need-returns
 returns c =
@@ -35,14 +20,4 @@ returns-2 : tie.Need-returns-2
 returns-2 c = let a = c .before .before .before .before .before .before .before .before .args in held-made (a .self) (a .n) _ _ (a .input .now) _ _ (c .before .before .before .before .before .fitting .ensures) refl (c .before .put-part2 .ensures .0) (c .before .put-part2 .ensures .1)
 
 pub hold-spec : {M : Type 1} → statement M
-hold-spec =
-    tie.close
-    (tie.spec
-    fitting-requires
-    slice-aggregate-put-part
-    put-part-requires
-    slice-aggregate-put-part-2
-    slice-aggregate-put-part-3
-    put-part-requires-2
-    returns
-    returns-2)
+hold-spec = tie.close (tie.spec (search needs) (λ c. search needs) (search needs) (λ c. search needs) slice-aggregate-put-part-3 (search needs) returns returns-2)

@@ -24,23 +24,8 @@ Inv-loop run self len fit₀ i₀ fit i = (i ≤ 16) × (fit ≡ (head run self 
 abbrev μ-loop : tie.MeasureT-loop
 μ-loop run self len fit₀ i₀ fit i = 16 - i
 
-len-in-range-requires : tie.Need-len-in-range-requires Inv-loop μ-loop
-len-in-range-requires c κs = search needs
-
 loop-holds : tie.Need-loop-holds Inv-loop μ-loop
 loop-holds c = let v = c .before .args .t1 in let r = c .before .args .run in let long : length (v .bytes) ≡ 16 = search (c .before .good, length-mapped) in (omega arith, with-length (c .len-in-range .result) (lenFits r (v .len)) (v .bytes) (c .len-in-range .ensures) long ∙ every-none (byteAt v) _)
-
-element-copy-out-byte-in-range : tie.Need-element-copy-out-byte-in-range Inv-loop μ-loop
-element-copy-out-byte-in-range c = search needs
-
-byte-in-range-requires : tie.Need-byte-in-range-requires Inv-loop μ-loop
-byte-in-range-requires c κs = search needs
-
-add-i : tie.Need-add-i Inv-loop μ-loop
-add-i c = omega arith
-
-loop-less : tie.Need-loop-less Inv-loop μ-loop
-loop-less c = omega arith
 
 loop-again : tie.Need-loop-again Inv-loop μ-loop
 loop-again c = let v = c .before .before .before .before .before .args .t1 in (omega arith, every-from (byteAt v) _ (head (c .before .before .before .before .before .args .run) v) _ _ (c .before .before .before .loop .inv .1) (c .byte-in-range .ensures))
@@ -50,16 +35,4 @@ unfolding certificateFits
 returns c = let v = c .before .before .before .args .t1 in let e : c .before .loop .i ≡ 16 = omega arith in c .before .loop .inv .1 ∙ ap (λ (n : ℕ). head (c .before .before .before .args .run) v && every (byteAt v) n) e
 
 pub in-range-spec : {M : Type 1} → statement M
-in-range-spec =
-    tie.close
-    (tie.spec
-    Inv-loop
-    μ-loop
-    len-in-range-requires
-    loop-holds
-    element-copy-out-byte-in-range
-    byte-in-range-requires
-    add-i
-    loop-less
-    loop-again
-    returns)
+in-range-spec = tie.close (tie.spec Inv-loop μ-loop (search needs) loop-holds (search needs) (search needs) (λ c. omega arith) (λ c. omega arith) loop-again returns)

@@ -5,27 +5,6 @@ use borrow.Author.Needs.{needs}
 use Rattle.message.proofs.head.Head.carries.Statement.{statement}
 use Rattle.message.proofs.head.Head.carries.Tie as tie
 
-enum-known-self : tie.Need-enum-known-self
-enum-known-self c = search needs
-
-carry-requires : tie.Need-carry-requires
-carry-requires c κs = search needs
-
-enum-told : tie.Need-enum-told
-enum-told c = search needs
-
-carry-requires-2 : tie.Need-carry-requires-2
-carry-requires-2 c κs = search needs
-
-enum-told-2 : tie.Need-enum-told-2
-enum-told-2 c = search needs
-
-carry-requires-3 : tie.Need-carry-requires-3
-carry-requires-3 c κs = search needs
-
-carry-requires-4 : tie.Need-carry-requires-4
-carry-requires-4 c κs = search needs
-
 returns : tie.Need-returns
 unfolding carried
 returns c = rw (c .before .before .self .given .1) (c .carry .ensures)
@@ -43,17 +22,5 @@ unfolding carried
 returns-4 c = let n = not-carrying (c .before .before .args .self) (c .before .match .keys4) in rw (n .0, n .1, n .2) (c .carry4 .ensures)
 
 pub carries-spec : {M : Type 1} → statement M
-carries-spec =
-    tie.close
-    (tie.spec
-    enum-known-self
-    carry-requires
-    enum-told
-    carry-requires-2
-    enum-told-2
-    carry-requires-3
-    carry-requires-4
-    returns
-    returns-2
-    returns-3
+carries-spec = tie.close (tie.spec (search needs) (search needs) (search needs) (search needs) (search needs) (search needs) (search needs) returns returns-2 returns-3
     returns-4)

@@ -8,84 +8,6 @@ use borrow.Author.Needs.{needs}
 use Rattle.message.proofs.head.Head.in_range.Statement.{statement}
 use Rattle.message.proofs.head.Head.in_range.Tie as tie
 
-enum-known-self : tie.Need-enum-known-self
-enum-known-self c = search needs
-
-reading-fits-requires : tie.Need-reading-fits-requires
-reading-fits-requires c κs = search needs
-
-enum-known-self-2 : tie.Need-enum-known-self-2
-enum-known-self-2 c = search needs
-
-mask-fits-requires : tie.Need-mask-fits-requires
-mask-fits-requires c κs = search needs
-
-enum-known-self-3 : tie.Need-enum-known-self-3
-enum-known-self-3 c = search needs
-
-mask-fits-requires-2 : tie.Need-mask-fits-requires-2
-mask-fits-requires-2 c κs = search needs
-
-enum-known-self-4 : tie.Need-enum-known-self-4
-enum-known-self-4 c = search needs
-
-state-fits-requires : tie.Need-state-fits-requires
-state-fits-requires c κs = search needs
-
-enum-known-self-5 : tie.Need-enum-known-self-5
-enum-known-self-5 c = search needs
-
-state-fits-requires-2 : tie.Need-state-fits-requires-2
-state-fits-requires-2 c κs = search needs
-
-enum-known-self-6 : tie.Need-enum-known-self-6
-enum-known-self-6 c = search needs
-
-digest-fits-requires : tie.Need-digest-fits-requires
-digest-fits-requires c κs = search needs
-
-enum-known-self-7 : tie.Need-enum-known-self-7
-enum-known-self-7 c = search needs
-
-digest-fits-requires-2 : tie.Need-digest-fits-requires-2
-digest-fits-requires-2 c κs = search needs
-
-enum-known-self-8 : tie.Need-enum-known-self-8
-enum-known-self-8 c = search needs
-
-in-range-requires : tie.Need-in-range-requires
-in-range-requires c κs = search needs
-
-enum-known-self-9 : tie.Need-enum-known-self-9
-enum-known-self-9 c = search needs
-
-in-range-requires-2 : tie.Need-in-range-requires-2
-in-range-requires-2 c κs = search needs
-
-enum-known-self-10 : tie.Need-enum-known-self-10
-enum-known-self-10 c = search needs
-
-in-range-requires-3 : tie.Need-in-range-requires-3
-in-range-requires-3 c κs = search needs
-
-enum-known-self-11 : tie.Need-enum-known-self-11
-enum-known-self-11 c = search needs
-
-in-range-requires-4 : tie.Need-in-range-requires-4
-in-range-requires-4 c κs = search needs
-
-enum-known-self-12 : tie.Need-enum-known-self-12
-enum-known-self-12 c = search needs
-
-floor-in-range-requires : tie.Need-floor-in-range-requires
-floor-in-range-requires c κs = search needs
-
-enum-known-self-13 : tie.Need-enum-known-self-13
-enum-known-self-13 c = search needs
-
-is-number-requires : tie.Need-is-number-requires
-is-number-requires c κs = search needs
-
 returns : tie.Need-returns
 unfolding headFits
 returns c = along (headFits _) (c .before .before .self .given .1) (c .reading-fits .ensures)
@@ -139,45 +61,7 @@ unfolding headFits
 returns-13 c = along (headFits _) (c .before .before .self13 .given .1) (c .is-number .ensures)
 
 pub in-range-spec : {M : Type 1} → statement M
-in-range-spec =
-    tie.close
-    (tie.spec
-    enum-known-self
-    reading-fits-requires
-    enum-known-self-2
-    mask-fits-requires
-    enum-known-self-3
-    mask-fits-requires-2
-    enum-known-self-4
-    state-fits-requires
-    enum-known-self-5
-    state-fits-requires-2
-    enum-known-self-6
-    digest-fits-requires
-    enum-known-self-7
-    digest-fits-requires-2
-    enum-known-self-8
-    in-range-requires
-    enum-known-self-9
-    in-range-requires-2
-    enum-known-self-10
-    in-range-requires-3
-    enum-known-self-11
-    in-range-requires-4
-    enum-known-self-12
-    floor-in-range-requires
-    enum-known-self-13
-    is-number-requires
-    returns
-    returns-2
-    returns-3
-    returns-4
-    returns-5
-    returns-6
-    returns-7
-    returns-8
-    returns-9
-    returns-10
-    returns-11
-    returns-12
-    returns-13)
+in-range-spec = tie.close (tie.spec (search needs) (search needs) (search needs) (search needs) (search needs) (search needs) (search needs) (search needs) (search needs)
+    (search needs) (search needs) (search needs) (search needs) (search needs) (search needs) (search needs) (search needs) (search needs) (search needs) (search needs)
+    (search needs) (search needs) (search needs) (search needs) (search needs) (search needs) returns returns-2 returns-3 returns-4 returns-5 returns-6 returns-7
+    returns-8 returns-9 returns-10 returns-11 returns-12 returns-13)

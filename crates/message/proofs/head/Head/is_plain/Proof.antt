@@ -5,15 +5,6 @@ use borrow.Author.Needs.{needs}
 use Rattle.message.proofs.head.Head.is_plain.Statement.{statement}
 use Rattle.message.proofs.head.Head.is_plain.Tie as tie
 
-enum-told : tie.Need-enum-told
-enum-told c = search needs
-
-enum-told-2 : tie.Need-enum-told-2
-enum-told-2 c = search needs
-
-enum-told-3 : tie.Need-enum-told-3
-enum-told-3 c = search needs
-
 returns : tie.Need-returns
 unfolding isPlain
 returns c = search needs
@@ -31,5 +22,4 @@ unfolding isPlain
 returns-4 c = let n = not-carrying (c .before .args .self) (c .match .keys4) in rw (n .0, n .1, n .2)
 
 pub is-plain-spec : {M : Type 1} → statement M
-is-plain-spec =
-    tie.close (tie.spec enum-told enum-told-2 enum-told-3 returns returns-2 returns-3 returns-4)
+is-plain-spec = tie.close (tie.spec (search needs) (search needs) (search needs) returns returns-2 returns-3 returns-4)

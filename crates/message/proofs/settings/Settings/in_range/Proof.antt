@@ -28,9 +28,6 @@ Inv-loop self m fit₀ i₀ fit i = (i ≤ 16) × (fit ≡ (head self && every (
 abbrev μ-loop : tie.MeasureT-loop
 μ-loop self m fit₀ i₀ fit i = 16 - i
 
-in-range-requires : tie.Need-in-range-requires Inv-loop μ-loop
-in-range-requires c κs = search needs
-
 loop-holds : tie.Need-loop-holds Inv-loop μ-loop
 loop-holds c =
     let v = c .before .before .args .t1 in
@@ -40,21 +37,6 @@ loop-holds c =
     let z : length (v .certificates) ≡ 16 = search (g, length-mapped) in
     (omega arith, headed v _ (c .in-range .ensures) x y z ∙ every-none (certificateAt v) _)
 
-mul-certificate : tie.Need-mul-certificate Inv-loop μ-loop
-mul-certificate c = search needs
-
-element-copy-out-certificate : tie.Need-element-copy-out-certificate Inv-loop μ-loop
-element-copy-out-certificate c = search needs
-
-in-range-requires-2 : tie.Need-in-range-requires-2 Inv-loop μ-loop
-in-range-requires-2 c κs = search needs
-
-add-i : tie.Need-add-i Inv-loop μ-loop
-add-i c = omega arith
-
-loop-less : tie.Need-loop-less Inv-loop μ-loop
-loop-less c = omega arith
-
 loop-again : tie.Need-loop-again Inv-loop μ-loop
 loop-again c = let v = c .before .before .before .before .before .before .args .t1 in (omega arith, every-from (certificateAt v) _ (head v) _ _ (c .before .before .before .loop .inv .1) (c .in-range2 .ensures))
 
@@ -63,17 +45,5 @@ unfolding settingsFit
 returns c = let v = c .before .before .before .before .args .t1 in let e : c .before .loop .i ≡ 16 = omega arith in c .before .loop .inv .1 ∙ ap (λ (n : ℕ). head v && every (certificateAt v) n) e
 
 pub in-range-spec : {M : Type 1} → statement M
-in-range-spec =
-    tie.close
-    (tie.spec
-    Inv-loop
-    μ-loop
-    in-range-requires
-    loop-holds
-    mul-certificate
-    element-copy-out-certificate
-    in-range-requires-2
-    add-i
-    loop-less
-    loop-again
-    returns)
+in-range-spec = tie.close (tie.spec Inv-loop μ-loop (search needs) loop-holds (search needs) (search needs) (search needs) (λ c. omega arith) (λ c. omega arith)
+    loop-again returns)

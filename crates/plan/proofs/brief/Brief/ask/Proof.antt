@@ -13,27 +13,12 @@ use borrow.Author.Needs.{needs}
 use Rattle.plan.proofs.brief.Brief.ask.Statement.{statement}
 use Rattle.plan.proofs.brief.Brief.ask.Tie as tie
 
-missing-runs-requires : tie.Need-missing-runs-requires
-missing-runs-requires c κs = search needs
-
-previous-requires : tie.Need-previous-requires
-previous-requires c κs = search needs
-
-below-requires : tie.Need-below-requires
-below-requires c κs = search needs
-
-sending-requires : tie.Need-sending-requires
-sending-requires c κs = search needs
-
 returns : tie.Need-returns
 unfolding asking
 returns c =
     by-yes _ (ap (λ (p : StateLabel). ltb (c .before .before .before .before .before .before .before .before .args .self .state .0) (p .0))
     (sym (c .before .before .before .before .previous .ensures)) ∙ sym (c .before .before .before .below .ensures) ∙ c .before .before .if1 .taken) (by-yes _
     (eq-eqb _ 0 (sym (c .before .before .before .before .before .missing-runs .ensures) ∙ c .before .if2 .taken)) (c .sending .ensures))
-
-sending-both-requires : tie.Need-sending-both-requires
-sending-both-requires c κs = search needs
 
 returns-2 : tie.Need-returns-2
 unfolding asking
@@ -44,18 +29,12 @@ returns-2 c =
     (c .sending-both .ensures ∙ ap (λ (n : ℕ). both Keep (Query (a .self .own) (a .self .label) n) (Advert (a .self .own) (a .self .state)))
     (c .before .before .before .before .before .missing-runs .ensures)))
 
-doing-requires : tie.Need-doing-requires
-doing-requires c κs = search needs
-
 returns-3 : tie.Need-returns-3
 unfolding asking
 returns-3 c =
     by-no _ (ap (λ (p : StateLabel). ltb (c .before .before .before .before .before .before .before .before .args .self .state .0) (p .0))
     (sym (c .before .before .before .before .previous .ensures)) ∙ sym (c .before .before .before .below .ensures) ∙ c .before .before .if1 .left) (by-yes _
     (eq-eqb _ 0 (sym (c .before .before .before .before .before .missing-runs .ensures) ∙ c .before .if3 .taken)) (c .doing .ensures))
-
-sending-requires-2 : tie.Need-sending-requires-2
-sending-requires-2 c κs = search needs
 
 returns-4 : tie.Need-returns-4
 unfolding asking
@@ -66,17 +45,5 @@ returns-4 c =
     (c .sending2 .ensures ∙ ap (λ (n : ℕ). sends Keep (Query (a .self .own) (a .self .label) n)) (c .before .before .before .before .before .missing-runs .ensures)))
 
 pub ask-spec : {M : Type 1} → statement M
-ask-spec =
-    tie.close
-    (tie.spec
-    missing-runs-requires
-    previous-requires
-    below-requires
-    sending-requires
-    returns
-    sending-both-requires
-    returns-2
-    doing-requires
-    returns-3
-    sending-requires-2
+ask-spec = tie.close (tie.spec (search needs) (search needs) (search needs) (search needs) returns (search needs) returns-2 (search needs) returns-3 (search needs)
     returns-4)

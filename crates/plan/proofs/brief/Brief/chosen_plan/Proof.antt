@@ -7,42 +7,17 @@ use borrow.Author.Needs.{needs}
 use Rattle.plan.proofs.brief.Brief.chosen_plan.Statement.{statement}
 use Rattle.plan.proofs.brief.Brief.chosen_plan.Tie as tie
 
-before-requires : tie.Need-before-requires
-before-requires c κs = search needs
-
-end-requires : tie.Need-end-requires
-end-requires c κs = search needs
-
 returns : tie.Need-returns
 unfolding chosenPlan
 returns c = by-yes _ (ap not (sym (c .before .before .before2 .ensures)) ∙ c .before .if1 .taken) (c .end .ensures)
 
-possesses-requires : tie.Need-possesses-requires
-possesses-requires c κs = search needs
-
-end-requires-2 : tie.Need-end-requires-2
-end-requires-2 c κs = search needs
-
 returns-2 : tie.Need-returns-2
 unfolding chosenPlan
 returns-2 c = by-no _ (ap not (sym (c .before .before .before .before .before2 .ensures)) ∙ c .before .before .before .if1 .left) (by-yes _ (ap not (sym (c .before .before .possesses .ensures)) ∙ c .before .if2 .taken) (c .end2 .ensures))
-
-sending-after-requires : tie.Need-sending-after-requires
-sending-after-requires c κs = search needs
 
 returns-3 : tie.Need-returns-3
 unfolding chosenPlan
 returns-3 c = by-no _ (ap not (sym (c .before .before .before .before .before2 .ensures)) ∙ c .before .before .before .if1 .left) (by-no _ (ap not (sym (c .before .before .possesses .ensures)) ∙ c .before .if2 .left) (c .sending-after .ensures))
 
 pub chosen-plan-spec : {M : Type 1} → statement M
-chosen-plan-spec =
-    tie.close
-    (tie.spec
-    before-requires
-    end-requires
-    returns
-    possesses-requires
-    end-requires-2
-    returns-2
-    sending-after-requires
-    returns-3)
+chosen-plan-spec = tie.close (tie.spec (search needs) (search needs) returns (search needs) (search needs) returns-2 (search needs) returns-3)

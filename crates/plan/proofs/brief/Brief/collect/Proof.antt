@@ -7,18 +7,6 @@ use borrow.Author.Needs.{needs}
 use Rattle.plan.proofs.brief.Brief.collect.Statement.{statement}
 use Rattle.plan.proofs.brief.Brief.collect.Tie as tie
 
-has-requires : tie.Need-has-requires
-has-requires c κs = search needs
-
-doing-requires : tie.Need-doing-requires
-doing-requires c κs = search needs
-
-refusal-requires : tie.Need-refusal-requires
-refusal-requires c κs = search needs
-
-doing-requires-2 : tie.Need-doing-requires-2
-doing-requires-2 c κs = search needs
-
 returns : tie.Need-returns
 unfolding collected
 returns c = by-yes _ (sym (c .before .before .before .has .ensures) ∙ c .before .before .if1 .taken) (by-yes _ (eq-eqb _ _ (c .before .if2 .taken)) (c .doing .ensures))
@@ -32,13 +20,4 @@ unfolding collected
 returns-3 c = by-no _ (sym (c .before .before .has .ensures) ∙ c .before .if1 .left) (c .doing2 .ensures)
 
 pub collect-spec : {M : Type 1} → statement M
-collect-spec =
-    tie.close
-    (tie.spec
-    has-requires
-    doing-requires
-    refusal-requires
-    doing-requires-2
-    returns
-    returns-2
-    returns-3)
+collect-spec = tie.close (tie.spec (search needs) (search needs) (search needs) (search needs) returns returns-2 returns-3)

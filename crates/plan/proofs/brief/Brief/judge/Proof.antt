@@ -6,18 +6,6 @@ use borrow.Author.Needs.{needs}
 use Rattle.plan.proofs.brief.Brief.judge.Statement.{statement}
 use Rattle.plan.proofs.brief.Brief.judge.Tie as tie
 
-enum-told : tie.Need-enum-told
-enum-told c = search needs
-
-enum-told-2 : tie.Need-enum-told-2
-enum-told-2 c = search needs
-
-enum-known-decision : tie.Need-enum-known-decision
-enum-known-decision c = search needs
-
-chosen-plan-requires : tie.Need-chosen-plan-requires
-chosen-plan-requires c κs = search needs
-
 returns : tie.Need-returns
 unfolding judged
 returns c = along (judged (c .before .before .args .self) (c .before .before .args .seat) (c .before .before .args .digest) (c .before .before .args .first)) (c .enum-told .given .1) (refl)
@@ -31,13 +19,4 @@ unfolding judged
 returns-3 c = along (judged (c .before .before .before .before .args .self) (c .before .before .before .before .args .seat) (c .before .before .before .before .args .digest) (c .before .before .before .before .args .first)) (c .before .before .decision .given .1) (c .chosen-plan .ensures)
 
 pub judge-spec : {M : Type 1} → statement M
-judge-spec =
-    tie.close
-    (tie.spec
-    enum-told
-    enum-told-2
-    enum-known-decision
-    chosen-plan-requires
-    returns
-    returns-2
-    returns-3)
+judge-spec = tie.close (tie.spec (search needs) (search needs) (search needs) (search needs) returns returns-2 returns-3)

@@ -7,15 +7,6 @@ use borrow.Author.Needs.{needs}
 use Rattle.plan.proofs.brief.Brief.missing_runs.Statement.{statement}
 use Rattle.plan.proofs.brief.Brief.missing_runs.Tie as tie
 
-mask-end-requires : tie.Need-mask-end-requires
-mask-end-requires c κs = search needs
-
-sub-result : tie.Need-sub-result
-sub-result c = search needs
-
-sub-result-2 : tie.Need-sub-result-2
-sub-result-2 c = search needs
-
 returns : tie.Need-returns
 unfolding missingRuns
 returns c = ap (λ (n : ℕ). n - 1 - c .before .before .before .before .args .self .held) (c .before .before .before .mask-end .ensures)
@@ -25,5 +16,4 @@ unfolding missingRuns
 returns-2 c = omega (arith, c .before .before .mask-end .ensures)
 
 pub missing-runs-spec : {M : Type 1} → statement M
-missing-runs-spec =
-    tie.close (tie.spec mask-end-requires sub-result sub-result-2 returns returns-2)
+missing-runs-spec = tie.close (tie.spec (search needs) (search needs) (search needs) returns returns-2)

@@ -7,39 +7,9 @@ use borrow.Author.Needs.{needs}
 use Rattle.plan.proofs.brief.Brief.on_collecting_ends.Statement.{statement}
 use Rattle.plan.proofs.brief.Brief.on_collecting_ends.Tie as tie
 
-same-requires : tie.Need-same-requires
-same-requires c κs = search needs
-
-refusal-requires : tie.Need-refusal-requires
-refusal-requires c κs = search needs
-
 returns : tie.Need-returns
 unfolding planEnds inEnds
 returns c = by-yes _ (ap not (sym (c .before .before .same .ensures)) ∙ c .before .if1 .taken) (c .refusal .ensures)
-
-enum-told : tie.Need-enum-told
-enum-told c = search needs
-
-refusal-requires-2 : tie.Need-refusal-requires-2
-refusal-requires-2 c κs = search needs
-
-enum-told-2 : tie.Need-enum-told-2
-enum-told-2 c = search needs
-
-sending-requires : tie.Need-sending-requires
-sending-requires c κs = search needs
-
-enum-told-3 : tie.Need-enum-told-3
-enum-told-3 c = search needs
-
-refusal-requires-3 : tie.Need-refusal-requires-3
-refusal-requires-3 c κs = search needs
-
-enum-told-4 : tie.Need-enum-told-4
-enum-told-4 c = search needs
-
-refusal-requires-4 : tie.Need-refusal-requires-4
-refusal-requires-4 c κs = search needs
 
 returns-2 : tie.Need-returns-2
 unfolding planEnds inEnds
@@ -58,21 +28,5 @@ unfolding planEnds inEnds
 returns-5 c = by-no _ (ap not (sym (c .before .before .before .before .same .ensures)) ∙ c .before .before .before .if1 .left) (along (inEnds (c .before .before .before .before .before .before .args .self)) (c .before .enum-told4 .given .1) (c .refusal4 .ensures))
 
 pub on-collecting-ends-spec : {M : Type 1} → statement M
-on-collecting-ends-spec =
-    tie.close
-    (tie.spec
-    same-requires
-    refusal-requires
-    returns
-    enum-told
-    refusal-requires-2
-    enum-told-2
-    sending-requires
-    enum-told-3
-    refusal-requires-3
-    enum-told-4
-    refusal-requires-4
-    returns-2
-    returns-3
-    returns-4
-    returns-5)
+on-collecting-ends-spec = tie.close (tie.spec (search needs) (search needs) returns (search needs) (search needs) (search needs) (search needs) (search needs)
+    (search needs) (search needs) (search needs) returns-2 returns-3 returns-4 returns-5)

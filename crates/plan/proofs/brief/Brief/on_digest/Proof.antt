@@ -8,46 +8,13 @@ use borrow.Author.Needs.{needs}
 use Rattle.plan.proofs.brief.Brief.on_digest.Statement.{statement}
 use Rattle.plan.proofs.brief.Brief.on_digest.Tie as tie
 
-refusal-requires : tie.Need-refusal-requires
-refusal-requires c κs = search needs
-
 returns : tie.Need-returns
 unfolding planDigest inDigest
 returns c = by-yes _ (eq-eqb _ _ (c .before .if1 .taken)) (c .refusal .ensures)
 
-same-requires : tie.Need-same-requires
-same-requires c κs = search needs
-
-refusal-requires-2 : tie.Need-refusal-requires-2
-refusal-requires-2 c κs = search needs
-
 returns-2 : tie.Need-returns-2
 unfolding planDigest inDigest
 returns-2 c = by-no _ (ne-eqb _ _ (c .before .before .before .if1 .left)) (by-yes _ (ap not (sym (c .before .before .same .ensures)) ∙ c .before .if2 .taken) (c .refusal2 .ensures))
-
-enum-told : tie.Need-enum-told
-enum-told c = search needs
-
-refusal-requires-3 : tie.Need-refusal-requires-3
-refusal-requires-3 c κs = search needs
-
-enum-told-2 : tie.Need-enum-told-2
-enum-told-2 c = search needs
-
-seat-requires : tie.Need-seat-requires
-seat-requires c κs = search needs
-
-enum-told-3 : tie.Need-enum-told-3
-enum-told-3 c = search needs
-
-seat-requires-2 : tie.Need-seat-requires-2
-seat-requires-2 c κs = search needs
-
-enum-told-4 : tie.Need-enum-told-4
-enum-told-4 c = search needs
-
-seat-requires-3 : tie.Need-seat-requires-3
-seat-requires-3 c κs = search needs
 
 returns-3 : tie.Need-returns-3
 unfolding planDigest inDigest
@@ -82,23 +49,5 @@ returns-6 c =
     (along (inDigest (a .self) (a .cast) (a .sender) (a .digest)) (c .before .enum-told4 .given .1) (c .seat3 .ensures)))
 
 pub on-digest-spec : {M : Type 1} → statement M
-on-digest-spec =
-    tie.close
-    (tie.spec
-    refusal-requires
-    returns
-    same-requires
-    refusal-requires-2
-    returns-2
-    enum-told
-    refusal-requires-3
-    enum-told-2
-    seat-requires
-    enum-told-3
-    seat-requires-2
-    enum-told-4
-    seat-requires-3
-    returns-3
-    returns-4
-    returns-5
-    returns-6)
+on-digest-spec = tie.close (tie.spec (search needs) returns (search needs) (search needs) returns-2 (search needs) (search needs) (search needs) (search needs)
+    (search needs) (search needs) (search needs) (search needs) returns-3 returns-4 returns-5 returns-6)

@@ -8,46 +8,13 @@ use borrow.Author.Needs.{needs}
 use Rattle.plan.proofs.brief.Brief.on_query.Statement.{statement}
 use Rattle.plan.proofs.brief.Brief.on_query.Tie as tie
 
-refusal-requires : tie.Need-refusal-requires
-refusal-requires c κs = search needs
-
 returns : tie.Need-returns
 unfolding planQuery inQuery
 returns c = by-yes _ (eq-eqb _ _ (c .before .if1 .taken)) (c .refusal .ensures)
 
-same-requires : tie.Need-same-requires
-same-requires c κs = search needs
-
-refusal-requires-2 : tie.Need-refusal-requires-2
-refusal-requires-2 c κs = search needs
-
 returns-2 : tie.Need-returns-2
 unfolding planQuery inQuery
 returns-2 c = by-no _ (ne-eqb _ _ (c .before .before .before .if1 .left)) (by-yes _ (ap not (sym (c .before .before .same .ensures)) ∙ c .before .if2 .taken) (c .refusal2 .ensures))
-
-enum-told : tie.Need-enum-told
-enum-told c = search needs
-
-refusal-requires-3 : tie.Need-refusal-requires-3
-refusal-requires-3 c κs = search needs
-
-enum-told-2 : tie.Need-enum-told-2
-enum-told-2 c = search needs
-
-answer-requires : tie.Need-answer-requires
-answer-requires c κs = search needs
-
-enum-told-3 : tie.Need-enum-told-3
-enum-told-3 c = search needs
-
-answer-requires-2 : tie.Need-answer-requires-2
-answer-requires-2 c κs = search needs
-
-enum-told-4 : tie.Need-enum-told-4
-enum-told-4 c = search needs
-
-answer-requires-3 : tie.Need-answer-requires-3
-answer-requires-3 c κs = search needs
 
 returns-3 : tie.Need-returns-3
 unfolding planQuery inQuery
@@ -74,23 +41,5 @@ returns-6 c =
     by-no _ (ne-eqb _ _ (c .before .before .before .before .before .if1 .left)) (by-no _ (ap not (sym (c .before .before .before .before .same .ensures)) ∙ c .before .before .before .if2 .left) (along (inQuery (a .self) (a .mask)) (c .before .enum-told4 .given .1) (c .answer3 .ensures)))
 
 pub on-query-spec : {M : Type 1} → statement M
-on-query-spec =
-    tie.close
-    (tie.spec
-    refusal-requires
-    returns
-    same-requires
-    refusal-requires-2
-    returns-2
-    enum-told
-    refusal-requires-3
-    enum-told-2
-    answer-requires
-    enum-told-3
-    answer-requires-2
-    enum-told-4
-    answer-requires-3
-    returns-3
-    returns-4
-    returns-5
-    returns-6)
+on-query-spec = tie.close (tie.spec (search needs) returns (search needs) (search needs) returns-2 (search needs) (search needs) (search needs) (search needs)
+    (search needs) (search needs) (search needs) (search needs) returns-3 returns-4 returns-5 returns-6)

@@ -7,31 +7,13 @@ use borrow.Author.Needs.{needs}
 use Rattle.plan.proofs.brief.Brief.on_reading.Statement.{statement}
 use Rattle.plan.proofs.brief.Brief.on_reading.Tie as tie
 
-before-requires : tie.Need-before-requires
-before-requires c κs = search needs
-
-refusal-requires : tie.Need-refusal-requires
-refusal-requires c κs = search needs
-
 returns : tie.Need-returns
 unfolding planReading
 returns c = by-yes _ (ap not (sym (c .before .before .before2 .ensures)) ∙ c .before .if1 .taken) (c .refusal .ensures)
 
-below-requires : tie.Need-below-requires
-below-requires c κs = search needs
-
-refusal-requires-2 : tie.Need-refusal-requires-2
-refusal-requires-2 c κs = search needs
-
 returns-2 : tie.Need-returns-2
 unfolding planReading
 returns-2 c = by-no _ (ap not (sym (c .before .before .before .before .before2 .ensures)) ∙ c .before .before .before .if1 .left) (by-yes _ (sym (c .before .before .below .ensures) ∙ c .before .if2 .taken) (c .refusal2 .ensures))
-
-same-requires : tie.Need-same-requires
-same-requires c κs = search needs
-
-reading-again-requires : tie.Need-reading-again-requires
-reading-again-requires c κs = search needs
 
 returns-3 : tie.Need-returns-3
 unfolding planReading
@@ -39,9 +21,6 @@ returns-3 c =
     by-no _ (ap not (sym (c .before .before .before .before .before .before .before2 .ensures)) ∙ c .before .before .before .before .before .if1 .left)
     (by-no _ (sym (c .before .before .before .before .below .ensures) ∙ c .before .before .before .if2 .left)
     (by-yes _ (sym (c .before .before .same .ensures) ∙ c .before .if3 .taken) (c .reading-again .ensures)))
-
-doing-requires : tie.Need-doing-requires
-doing-requires c κs = search needs
 
 returns-4 : tie.Need-returns-4
 unfolding planReading
@@ -51,17 +30,5 @@ returns-4 c =
     (by-no _ (sym (c .before .before .same .ensures) ∙ c .before .if3 .left) (c .doing .ensures)))
 
 pub on-reading-spec : {M : Type 1} → statement M
-on-reading-spec =
-    tie.close
-    (tie.spec
-    before-requires
-    refusal-requires
-    returns
-    below-requires
-    refusal-requires-2
-    returns-2
-    same-requires
-    reading-again-requires
-    returns-3
-    doing-requires
+on-reading-spec = tie.close (tie.spec (search needs) (search needs) returns (search needs) (search needs) returns-2 (search needs) (search needs) returns-3 (search needs)
     returns-4)

@@ -8,49 +8,13 @@ use borrow.Author.Needs.{needs}
 use Rattle.plan.proofs.brief.Brief.on_reply.Statement.{statement}
 use Rattle.plan.proofs.brief.Brief.on_reply.Tie as tie
 
-refusal-requires : tie.Need-refusal-requires
-refusal-requires c κs = search needs
-
 returns : tie.Need-returns
 unfolding planReply inReply
 returns c = by-yes _ (eq-eqb _ _ (c .before .if1 .taken)) (c .refusal .ensures)
 
-same-requires : tie.Need-same-requires
-same-requires c κs = search needs
-
-refusal-requires-2 : tie.Need-refusal-requires-2
-refusal-requires-2 c κs = search needs
-
 returns-2 : tie.Need-returns-2
 unfolding planReply inReply
 returns-2 c = by-no _ (ne-eqb _ _ (c .before .before .before .if1 .left)) (by-yes _ (ap not (sym (c .before .before .same .ensures)) ∙ c .before .if2 .taken) (c .refusal2 .ensures))
-
-enum-told : tie.Need-enum-told
-enum-told c = search needs
-
-refusal-requires-3 : tie.Need-refusal-requires-3
-refusal-requires-3 c κs = search needs
-
-enum-told-2 : tie.Need-enum-told-2
-enum-told-2 c = search needs
-
-refusal-requires-4 : tie.Need-refusal-requires-4
-refusal-requires-4 c κs = search needs
-
-doing-requires : tie.Need-doing-requires
-doing-requires c κs = search needs
-
-enum-told-3 : tie.Need-enum-told-3
-enum-told-3 c = search needs
-
-refusal-requires-5 : tie.Need-refusal-requires-5
-refusal-requires-5 c κs = search needs
-
-enum-told-4 : tie.Need-enum-told-4
-enum-told-4 c = search needs
-
-refusal-requires-6 : tie.Need-refusal-requires-6
-refusal-requires-6 c κs = search needs
 
 returns-3 : tie.Need-returns-3
 unfolding planReply inReply
@@ -87,25 +51,5 @@ returns-7 c =
     by-no _ (ne-eqb _ _ (c .before .before .before .before .before .if1 .left)) (by-no _ (ap not (sym (c .before .before .before .before .same .ensures)) ∙ c .before .before .before .if2 .left) (along (inReply (a .mask) (a .clash)) (c .before .enum-told4 .given .1) (c .refusal6 .ensures)))
 
 pub on-reply-spec : {M : Type 1} → statement M
-on-reply-spec =
-    tie.close
-    (tie.spec
-    refusal-requires
-    returns
-    same-requires
-    refusal-requires-2
-    returns-2
-    enum-told
-    refusal-requires-3
-    enum-told-2
-    refusal-requires-4
-    doing-requires
-    enum-told-3
-    refusal-requires-5
-    enum-told-4
-    refusal-requires-6
-    returns-3
-    returns-4
-    returns-5
-    returns-6
-    returns-7)
+on-reply-spec = tie.close (tie.spec (search needs) returns (search needs) (search needs) returns-2 (search needs) (search needs) (search needs) (search needs)
+    (search needs) (search needs) (search needs) (search needs) (search needs) returns-3 returns-4 returns-5 returns-6 returns-7)

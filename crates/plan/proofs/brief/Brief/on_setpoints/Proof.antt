@@ -6,19 +6,13 @@ use borrow.Author.Needs.{needs}
 use Rattle.plan.proofs.brief.Brief.on_setpoints.Statement.{statement}
 use Rattle.plan.proofs.brief.Brief.on_setpoints.Tie as tie
 
-refusal-requires : tie.Need-refusal-requires
-refusal-requires c κs = search needs
-
 returns : tie.Need-returns
 unfolding planSetpoints
 returns c = by-yes _ (eq-eqb _ _ (c .before .if1 .taken)) (c .refusal .ensures)
-
-refusal-requires-2 : tie.Need-refusal-requires-2
-refusal-requires-2 c κs = search needs
 
 returns-2 : tie.Need-returns-2
 unfolding planSetpoints
 returns-2 c = by-no _ (ne-eqb _ _ (c .before .if1 .left)) (c .refusal2 .ensures)
 
 pub on-setpoints-spec : {M : Type 1} → statement M
-on-setpoints-spec = tie.close (tie.spec refusal-requires returns refusal-requires-2 returns-2)
+on-setpoints-spec = tie.close (tie.spec (search needs) returns (search needs) returns-2)

@@ -7,39 +7,9 @@ use borrow.Author.Needs.{needs}
 use Rattle.plan.proofs.brief.Brief.on_update.Statement.{statement}
 use Rattle.plan.proofs.brief.Brief.on_update.Tie as tie
 
-refusal-requires : tie.Need-refusal-requires
-refusal-requires c κs = search needs
-
 returns : tie.Need-returns
 unfolding planUpdate inUpdate
 returns c = by-yes _ (eq-eqb _ _ (c .before .if1 .taken)) (c .refusal .ensures)
-
-enum-told : tie.Need-enum-told
-enum-told c = search needs
-
-adopt-requires : tie.Need-adopt-requires
-adopt-requires c κs = search needs
-
-enum-told-2 : tie.Need-enum-told-2
-enum-told-2 c = search needs
-
-phase-after-requires : tie.Need-phase-after-requires
-phase-after-requires c κs = search needs
-
-adopt-requires-2 : tie.Need-adopt-requires-2
-adopt-requires-2 c κs = search needs
-
-enum-told-3 : tie.Need-enum-told-3
-enum-told-3 c = search needs
-
-refusal-requires-2 : tie.Need-refusal-requires-2
-refusal-requires-2 c κs = search needs
-
-enum-told-4 : tie.Need-enum-told-4
-enum-told-4 c = search needs
-
-refusal-requires-3 : tie.Need-refusal-requires-3
-refusal-requires-3 c κs = search needs
 
 returns-2 : tie.Need-returns-2
 unfolding planUpdate inUpdate
@@ -66,21 +36,5 @@ returns-5 c =
     by-no _ (ne-eqb _ _ (c .before .before .before .if1 .left)) (along (inUpdate (a .self) (a .theirs) (a .same)) (c .before .enum-told4 .given .1) (c .refusal3 .ensures))
 
 pub on-update-spec : {M : Type 1} → statement M
-on-update-spec =
-    tie.close
-    (tie.spec
-    refusal-requires
-    returns
-    enum-told
-    adopt-requires
-    enum-told-2
-    phase-after-requires
-    adopt-requires-2
-    enum-told-3
-    refusal-requires-2
-    enum-told-4
-    refusal-requires-3
-    returns-2
-    returns-3
-    returns-4
-    returns-5)
+on-update-spec = tie.close (tie.spec (search needs) returns (search needs) (search needs) (search needs) (search needs) (search needs) (search needs) (search needs)
+    (search needs) (search needs) returns-2 returns-3 returns-4 returns-5)

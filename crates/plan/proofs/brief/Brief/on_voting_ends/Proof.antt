@@ -7,36 +7,9 @@ use borrow.Author.Needs.{needs}
 use Rattle.plan.proofs.brief.Brief.on_voting_ends.Statement.{statement}
 use Rattle.plan.proofs.brief.Brief.on_voting_ends.Tie as tie
 
-same-requires : tie.Need-same-requires
-same-requires c κs = search needs
-
-refusal-requires : tie.Need-refusal-requires
-refusal-requires c κs = search needs
-
 returns : tie.Need-returns
 unfolding planVotingEnds inVotingEnds
 returns c = by-yes _ (ap not (sym (c .before .before .same .ensures)) ∙ c .before .if1 .taken) (c .refusal .ensures)
-
-enum-told : tie.Need-enum-told
-enum-told c = search needs
-
-refusal-requires-2 : tie.Need-refusal-requires-2
-refusal-requires-2 c κs = search needs
-
-enum-told-2 : tie.Need-enum-told-2
-enum-told-2 c = search needs
-
-refusal-requires-3 : tie.Need-refusal-requires-3
-refusal-requires-3 c κs = search needs
-
-enum-told-3 : tie.Need-enum-told-3
-enum-told-3 c = search needs
-
-refusal-requires-4 : tie.Need-refusal-requires-4
-refusal-requires-4 c κs = search needs
-
-enum-told-4 : tie.Need-enum-told-4
-enum-told-4 c = search needs
 
 returns-2 : tie.Need-returns-2
 unfolding planVotingEnds inVotingEnds
@@ -55,20 +28,5 @@ unfolding planVotingEnds inVotingEnds
 returns-5 c = by-no _ (ap not (sym (c .before .before .before .same .ensures)) ∙ c .before .before .if1 .left) (along (inVotingEnds) (c .enum-told4 .given .1) (refl))
 
 pub on-voting-ends-spec : {M : Type 1} → statement M
-on-voting-ends-spec =
-    tie.close
-    (tie.spec
-    same-requires
-    refusal-requires
-    returns
-    enum-told
-    refusal-requires-2
-    enum-told-2
-    refusal-requires-3
-    enum-told-3
-    refusal-requires-4
-    enum-told-4
-    returns-2
-    returns-3
-    returns-4
-    returns-5)
+on-voting-ends-spec = tie.close (tie.spec (search needs) (search needs) returns (search needs) (search needs) (search needs) (search needs) (search needs) (search needs)
+    (search needs) returns-2 returns-3 returns-4 returns-5)

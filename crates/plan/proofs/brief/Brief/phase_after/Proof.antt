@@ -6,9 +6,6 @@ use borrow.Author.Needs.{needs}
 use Rattle.plan.proofs.brief.Brief.phase_after.Statement.{statement}
 use Rattle.plan.proofs.brief.Brief.phase_after.Tie as tie
 
-before-requires : tie.Need-before-requires
-before-requires c κs = search needs
-
 returns : tie.Need-returns
 unfolding overtaken
 returns c = by-yes _ (sym (c .before .before2 .ensures) ∙ c .if1 .taken) (refl)
@@ -18,4 +15,4 @@ unfolding overtaken
 returns-2 c = by-no _ (sym (c .before .before2 .ensures) ∙ c .if1 .left) (refl)
 
 pub phase-after-spec : {M : Type 1} → statement M
-phase-after-spec = tie.close (tie.spec before-requires returns returns-2)
+phase-after-spec = tie.close (tie.spec (search needs) returns returns-2)

@@ -8,9 +8,6 @@ use borrow.Author.Needs.{needs}
 use Rattle.plan.proofs.brief.Brief.possesses.Statement.{statement}
 use Rattle.plan.proofs.brief.Brief.possesses.Tie as tie
 
-same-requires : tie.Need-same-requires
-same-requires c κs = search needs
-
 returns : tie.Need-returns
 unfolding possessed
 returns c =
@@ -18,4 +15,4 @@ returns c =
     ap (_&&_ (eqb (bitAnd (a .chosen .mask) (a .self .held)) (a .chosen .mask))) (c .same .ensures)
 
 pub possesses-spec : {M : Type 1} → statement M
-possesses-spec = tie.close (tie.spec same-requires returns)
+possesses-spec = tie.close (tie.spec (search needs) returns)

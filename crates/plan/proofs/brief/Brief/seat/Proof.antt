@@ -6,24 +6,6 @@ use borrow.Author.Needs.{needs}
 use Rattle.plan.proofs.brief.Brief.seat.Statement.{statement}
 use Rattle.plan.proofs.brief.Brief.seat.Tie as tie
 
-enum-told : tie.Need-enum-told
-enum-told c = search needs
-
-doing-requires : tie.Need-doing-requires
-doing-requires c κs = search needs
-
-enum-known-cast : tie.Need-enum-known-cast
-enum-known-cast c = search needs
-
-same-requires : tie.Need-same-requires
-same-requires c κs = search needs
-
-doing-requires-2 : tie.Need-doing-requires-2
-doing-requires-2 c κs = search needs
-
-refusal-requires : tie.Need-refusal-requires
-refusal-requires c κs = search needs
-
 returns : tie.Need-returns
 unfolding inSeat
 returns c = along (inSeat (c .before .before .before .args .sender) (c .before .before .before .args .digest) (c .before .before .before .args .self .phase)) (c .before .enum-told .given .1) (c .doing .ensures)
@@ -41,15 +23,4 @@ returns-3 c =
     along (inSeat (a .sender) (a .digest) (a .self .phase)) (c .before .before .before .before .cast .given .1) (by-no _ (sym (c .before .before .same .ensures) ∙ c .before .if1 .left) (c .refusal .ensures))
 
 pub seat-spec : {M : Type 1} → statement M
-seat-spec =
-    tie.close
-    (tie.spec
-    enum-told
-    doing-requires
-    enum-known-cast
-    same-requires
-    doing-requires-2
-    refusal-requires
-    returns
-    returns-2
-    returns-3)
+seat-spec = tie.close (tie.spec (search needs) (search needs) (search needs) (search needs) (search needs) (search needs) returns returns-2 returns-3)

@@ -6,18 +6,6 @@ use Rattle.session.specs.Feeding.{isEnded}
 use Rattle.session.proofs.feed.Session.ended.Statement.{statement}
 use Rattle.session.proofs.feed.Session.ended.Tie as tie
 
-enum-told : tie.Need-enum-told
-enum-told c = search needs
-
-enum-told-2 : tie.Need-enum-told-2
-enum-told-2 c = search needs
-
-enum-told-3 : tie.Need-enum-told-3
-enum-told-3 c = search needs
-
-enum-told-4 : tie.Need-enum-told-4
-enum-told-4 c = search needs
-
 returns : tie.Need-returns
 returns c = along isEnded (c .enum-told .given .1) refl
 
@@ -31,6 +19,4 @@ returns-4 : tie.Need-returns-4
 returns-4 c = along isEnded (c .enum-told4 .given .1) refl
 
 pub ended-spec : {M : Type 1} → statement M
-ended-spec =
-    tie.close
-    (tie.spec enum-told enum-told-2 enum-told-3 enum-told-4 returns returns-2 returns-3 returns-4)
+ended-spec = tie.close (tie.spec (search needs) (search needs) (search needs) (search needs) returns returns-2 returns-3 returns-4)

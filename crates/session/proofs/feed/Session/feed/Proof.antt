@@ -6,12 +6,6 @@ use Rattle.session.proofs.Feeds.{feed-held, feed-heard, feed-turned}
 use Rattle.session.proofs.feed.Session.feed.Statement.{statement}
 use Rattle.session.proofs.feed.Session.feed.Tie as tie
 
-first-requires : tie.Need-first-requires
-first-requires c κs = search needs
-
-hold-requires : tie.Need-hold-requires
-hold-requires c κs = search needs
-
 returns : tie.Need-returns
 returns c = let a = c .before .before .before .before .before .before .before .before .args in feed-held (a .self) (a .input .now) _ (c .before .before .before .first .ensures .0) _ (a .out .now) (c .before .if1 .taken) (c .hold .ensures)
 
@@ -24,27 +18,10 @@ turn-requires c κs = let a = c .before .before .before .before .before .before 
 add-line-done : tie.Need-add-line-done
 add-line-done c = let a = c .before .before .before .before .before .before .before .before .before .before .before .args in omega (arith, feed-within (a .input .now) _ (c .before .before .before .before .before .before .first .ensures .0), c .before .before .before .before .if1 .left)
 
-line-done-requires : tie.Need-line-done-requires
-line-done-requires c κs = search needs
-
-same-length : tie.Need-same-length
-same-length c = search needs
-
 returns-2 : tie.Need-returns-2
 returns-2 c =
     let a = c .before .before .before .before .before .before .before .before .before .before .before .before .args in
     feed-turned (a .self) (a .input .now) _ (c .before .before .before .before .before .before .before .first .ensures .0) _ _ (a .out .now) _ (c .before .before .before .before .before .if1 .left) (c .before .before .before .turn .ensures) (c .line-done .ensures)
 
 pub feed-spec : {M : Type 1} → statement M
-feed-spec =
-    tie.close
-    (tie.spec
-    first-requires
-    hold-requires
-    returns
-    add-turn
-    turn-requires
-    add-line-done
-    line-done-requires
-    same-length
-    returns-2)
+feed-spec = tie.close (tie.spec (search needs) (search needs) returns add-turn turn-requires add-line-done (search needs) (search needs) returns-2)

@@ -7,24 +7,6 @@ use Rattle.session.proofs.Feeds.{finish-done}
 use Rattle.session.proofs.feed.Session.finish.Statement.{statement}
 use Rattle.session.proofs.feed.Session.finish.Tie as tie
 
-len-requires : tie.Need-len-requires
-len-requires c κs = search needs
-
-last-of-requires : tie.Need-last-of-requires
-last-of-requires c κs = search needs
-
-put-verdict-requires : tie.Need-put-verdict-requires
-put-verdict-requires c κs = search needs
-
-settled-requires : tie.Need-settled-requires
-settled-requires c κs = search needs
-
-line-done-requires : tie.Need-line-done-requires
-line-done-requires c κs = search needs
-
-same-length : tie.Need-same-length
-same-length c = search needs
-
 returns : tie.Need-returns
 returns c =
     let a = c .before .before .before .before .before .before .before .before .before .before .before .before .args in
@@ -33,13 +15,4 @@ returns c =
     finish-done (a .self) _ _ _ _ (a .out .now) _ (c .before .settled .ensures) l (c .before .before .before .before .put-verdict .ensures) (c .line-done .ensures)
 
 pub finish-spec : {M : Type 1} → statement M
-finish-spec =
-    tie.close
-    (tie.spec
-    len-requires
-    last-of-requires
-    put-verdict-requires
-    settled-requires
-    line-done-requires
-    same-length
-    returns)
+finish-spec = tie.close (tie.spec (search needs) (search needs) (search needs) (search needs) (search needs) (search needs) returns)

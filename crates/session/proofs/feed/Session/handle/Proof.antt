@@ -29,20 +29,11 @@ sub-serve c = c .before .loop .inv .within
 part-serve-start : tie.Need-part-serve-start Inv-loop μ-loop
 part-serve-start c = c .before .loop .inv .within
 
-part-serve-end : tie.Need-part-serve-end Inv-loop μ-loop
-part-serve-end c = search needs
-
 sub-serve-2 : tie.Need-sub-serve-2 Inv-loop μ-loop
 sub-serve-2 c = filled-few _ _ _ _ _ (c .before .before .loop .inv)
 
 part-serve-start-2 : tie.Need-part-serve-start-2 Inv-loop μ-loop
 part-serve-start-2 c = filled-few _ _ _ _ _ (c .before .before .loop .inv)
-
-part-serve-end-2 : tie.Need-part-serve-end-2 Inv-loop μ-loop
-part-serve-end-2 c = search needs
-
-serve-requires : tie.Need-serve-requires Inv-loop μ-loop
-serve-requires c κs = search needs
 
 add-at : tie.Need-add-at Inv-loop μ-loop
 add-at c =
@@ -65,9 +56,6 @@ loop-less c =
 loop-again : tie.Need-loop-again Inv-loop μ-loop
 loop-again c = goes-served _ _ _ (c .before .before .before .before .before .before .before .before .before .loop .inv) (c .before .before .before .before .before .before .before .before .loop-test .taken) (c .before .before .before .before .before .serve .ensures) refl .3
 
-room-verdict-requires : tie.Need-room-verdict-requires Inv-loop μ-loop
-room-verdict-requires c κs = search needs
-
 same-length : tie.Need-same-length Inv-loop μ-loop
 same-length c = kept _ _ _ (c .before .before .loop .inv)
 
@@ -75,24 +63,5 @@ returns : tie.Need-returns Inv-loop μ-loop
 returns c = ends _ _ _ (c .before .before .loop .inv) (c .before .loop-test .left) refl (c .room-verdict .ensures)
 
 pub handle-spec : {M : Type 1} → statement M
-handle-spec =
-    tie.close
-    (tie.spec
-    Inv-loop
-    μ-loop
-    loop-holds
-    sub-loop
-    sub-serve
-    part-serve-start
-    part-serve-end
-    sub-serve-2
-    part-serve-start-2
-    part-serve-end-2
-    serve-requires
-    add-at
-    add-filled
-    loop-less
-    loop-again
-    room-verdict-requires
-    same-length
-    returns)
+handle-spec = tie.close (tie.spec Inv-loop μ-loop loop-holds sub-loop sub-serve part-serve-start (search needs) sub-serve-2 part-serve-start-2 (search needs)
+    (search needs) add-at add-filled loop-less loop-again (search needs) same-length returns)

@@ -4,14 +4,8 @@ use borrow.Author.Needs.{needs}
 use Rattle.session.proofs.feed.Session.may_run.Statement.{statement}
 use Rattle.session.proofs.feed.Session.may_run.Tie as tie
 
-is-running-requires : tie.Need-is-running-requires
-is-running-requires c κs = search needs
-
-is-empty-requires : tie.Need-is-empty-requires
-is-empty-requires c κs = search needs
-
 returns : tie.Need-returns
 returns c = let r = c .before .is-running .ensures in let e = c .is-empty .ensures in λ i. r i && e i
 
 pub may-run-spec : {M : Type 1} → statement M
-may-run-spec = tie.close (tie.spec is-running-requires is-empty-requires returns)
+may-run-spec = tie.close (tie.spec (search needs) (search needs) returns)

@@ -15,31 +15,16 @@ use borrow.Author.Needs.{needs}
 use Rattle.session.proofs.feed.Session.serve.Statement.{statement}
 use Rattle.session.proofs.feed.Session.serve.Tie as tie
 
-feed-requires : tie.Need-feed-requires
-feed-requires c κs = search needs
-
-may-run-requires : tie.Need-may-run-requires
-may-run-requires c κs = search needs
-
-same-length : tie.Need-same-length
-same-length c = search needs
-
 returns : tie.Need-returns
 returns c =
     let a = c .before .before .before .before .before .before .before .before .before .args in
     let f = c .before .before .before .before .before .feed in code-stays (a .self) (a .input .now) (a .out .now) _ (f .ensures .1) (f .result) (f .ensures .0) (sym (c .before .may-run .ensures) ∙ not-true _ (c .if1 .taken))
-
-numbers-requires : tie.Need-numbers-requires
-numbers-requires c κs = search needs
 
 sub-run-lines : tie.Need-sub-run-lines
 sub-run-lines c = let f = c .before .before .before .before .before .before .before .before .before .feed in call-took _ _ _ (f .result) (f .ensures .0)
 
 part-run-lines-start : tie.Need-part-run-lines-start
 part-run-lines-start c = let f = c .before .before .before .before .before .before .before .before .before .feed in call-took _ _ _ (f .result) (f .ensures .0)
-
-part-run-lines-end : tie.Need-part-run-lines-end
-part-run-lines-end c = search needs
 
 sub-run-lines-2 : tie.Need-sub-run-lines-2
 sub-run-lines-2 c =
@@ -50,15 +35,6 @@ part-run-lines-start-2 : tie.Need-part-run-lines-start-2
 part-run-lines-start-2 c =
     let a = c .before .before .before .before .before .before .before .before .before .before .before .before .before .before .args in
     let f = c .before .before .before .before .before .before .before .before .before .before .feed in code-wrote (a .self) (a .input .now) (a .out .now) _ (f .ensures .1) (f .result) (f .ensures .0)
-
-part-run-lines-end-2 : tie.Need-part-run-lines-end-2
-part-run-lines-end-2 c = search needs
-
-run-lines-requires : tie.Need-run-lines-requires
-run-lines-requires c κs = search needs
-
-running-requires : tie.Need-running-requires
-running-requires c κs = search needs
 
 add-t20 : tie.Need-add-t20
 add-t20 c =
@@ -108,23 +84,5 @@ returns-2 c =
     (n ∙ g .1, g .2)
 
 pub serve-spec : {M : Type 1} → statement M
-serve-spec =
-    tie.close
-    (tie.spec
-    feed-requires
-    may-run-requires
-    same-length
-    returns
-    numbers-requires
-    sub-run-lines
-    part-run-lines-start
-    part-run-lines-end
-    sub-run-lines-2
-    part-run-lines-start-2
-    part-run-lines-end-2
-    run-lines-requires
-    running-requires
-    add-t20
-    add-t24
-    same-length-2
-    returns-2)
+serve-spec = tie.close (tie.spec (search needs) (search needs) (search needs) returns (search needs) sub-run-lines part-run-lines-start (search needs) sub-run-lines-2
+    part-run-lines-start-2 (search needs) (search needs) (search needs) add-t20 add-t24 same-length-2 returns-2)

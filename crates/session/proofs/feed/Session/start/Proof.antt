@@ -4,15 +4,9 @@ use Rattle.session.specs.Feeding.{sessionStart}
 use Rattle.session.proofs.feed.Session.start.Statement.{statement}
 use Rattle.session.proofs.feed.Session.start.Tie as tie
 
-start-requires : tie.Need-start-requires
-start-requires c κs = search needs
-
-start-requires-2 : tie.Need-start-requires-2
-start-requires-2 c κs = search needs
-
 returns : tie.Need-returns
 unfolding sessionStart
 returns c = rw (c .before .start .ensures, c .start2 .ensures)
 
 pub start-spec : {M : Type 1} → statement M
-start-spec = tie.close (tie.spec start-requires start-requires-2 returns)
+start-spec = tie.close (tie.spec (search needs) (search needs) returns)

@@ -7,18 +7,6 @@ use Rattle.session.specs.Turn.{runningWith}
 use Rattle.session.proofs.stage.Core.begin.Statement.{statement}
 use Rattle.session.proofs.stage.Core.begin.Tie as tie
 
-numbers-requires : tie.Need-numbers-requires
-numbers-requires c κs = search needs
-
-begin-requires : tie.Need-begin-requires
-begin-requires c κs = search needs
-
-running-requires : tie.Need-running-requires
-running-requires c κs = search needs
-
-quiet-requires : tie.Need-quiet-requires
-quiet-requires c κs = search needs
-
 returns : tie.Need-returns
 returns c =
     let a = c .before .before .before .before .args in
@@ -26,4 +14,4 @@ returns c =
     c .quiet .ensures ∙ ap (λ k. record { next = k; written = Done 0 }) (c .before .running .ensures ∙ ap (runningWith (a .self)) n)
 
 pub begin-spec : {M : Type 1} → statement M
-begin-spec = tie.close (tie.spec numbers-requires begin-requires running-requires quiet-requires returns)
+begin-spec = tie.close (tie.spec (search needs) (search needs) (search needs) (search needs) returns)

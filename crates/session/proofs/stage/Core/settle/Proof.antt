@@ -5,41 +5,11 @@ use Rattle.session.proofs.Turns.{settles-more, settles-whole, settles-r
 use Rattle.session.proofs.stage.Core.settle.Statement.{statement}
 use Rattle.session.proofs.stage.Core.settle.Tie as tie
 
-enum-told : tie.Need-enum-told
-enum-told c = search needs
-
-settled-requires : tie.Need-settled-requires
-settled-requires c κs = search needs
-
-quiet-requires : tie.Need-quiet-requires
-quiet-requires c κs = search needs
-
-enum-told-2 : tie.Need-enum-told-2
-enum-told-2 c = search needs
-
-settled-requires-2 : tie.Need-settled-requires-2
-settled-requires-2 c κs = search needs
-
-quiet-requires-2 : tie.Need-quiet-requires-2
-quiet-requires-2 c κs = search needs
-
-enum-known-answer : tie.Need-enum-known-answer
-enum-known-answer c = search needs
-
-settled-requires-3 : tie.Need-settled-requires-3
-settled-requires-3 c κs = search needs
-
-refuse-requires : tie.Need-refuse-requires
-refuse-requires c κs = search needs
-
 returns : tie.Need-returns
 returns c = let a = c .before .before .before .before .before .before .args in wrote-quiet _ _ (a .out .now) (settles-more (a .self) (a .settled .next) (c .before .before .enum-told .given .1)) (c .before .settled .ensures) (c .quiet .ensures)
 
 returns-2 : tie.Need-returns-2
 returns-2 c = let a = c .before .before .before .before .before .before .args in wrote-quiet _ _ (a .out .now) (settles-whole (a .self) (a .settled .next) (c .before .before .enum-told2 .given .1)) (c .before .settled2 .ensures) (c .quiet2 .ensures)
-
-same-length : tie.Need-same-length
-same-length c = search needs
 
 returns-3 : tie.Need-returns-3
 returns-3 c =
@@ -47,19 +17,5 @@ returns-3 c =
     wrote-refusing _ _ _ (a .out .now) (settles-refused (a .self) (a .settled .next) _ (c .before .before .before .before .before .before .answer .given .1)) (c .before .before .before .before .settled3 .ensures) (c .before .before .refuse .ensures)
 
 pub settle-spec : {M : Type 1} → statement M
-settle-spec =
-    tie.close
-    (tie.spec
-    enum-told
-    settled-requires
-    quiet-requires
-    enum-told-2
-    settled-requires-2
-    quiet-requires-2
-    enum-known-answer
-    settled-requires-3
-    refuse-requires
-    returns
-    returns-2
-    same-length
-    returns-3)
+settle-spec = tie.close (tie.spec (search needs) (search needs) (search needs) (search needs) (search needs) (search needs) (search needs) (search needs) (search needs)
+    returns returns-2 (search needs) returns-3)

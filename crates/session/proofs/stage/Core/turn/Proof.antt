@@ -7,43 +7,10 @@ use Rattle.session.specs.Feeding.{advancing}
 use Rattle.session.proofs.stage.Core.turn.Statement.{statement}
 use Rattle.session.proofs.stage.Core.turn.Tie as tie
 
-enum-told : tie.Need-enum-told
-enum-told c = search needs
-
-take-on-requires : tie.Need-take-on-requires
-take-on-requires c κs = search needs
-
-settle-requires : tie.Need-settle-requires
-settle-requires c κs = search needs
-
-enum-told-2 : tie.Need-enum-told-2
-enum-told-2 c = search needs
-
-wait-requires : tie.Need-wait-requires
-wait-requires c κs = search needs
-
-enum-told-3 : tie.Need-enum-told-3
-enum-told-3 c = search needs
-
-run-requires : tie.Need-run-requires
-run-requires c κs = search needs
-
-enum-told-4 : tie.Need-enum-told-4
-enum-told-4 c = search needs
-
-quiet-requires : tie.Need-quiet-requires
-quiet-requires c κs = search needs
-
-same-length : tie.Need-same-length
-same-length c = search needs
-
 returns : tie.Need-returns
 returns c =
     let a = c .before .before .before .before .before .before .before .before .before .before .args in
     wrote-same (a .out .now) (turn-settles advancing (a .self) _ _ (c .before .before .before .before .before .enum-told .given .1) (c .before .before .before .before .take-on .ensures)) (c .before .before .settle .ensures)
-
-same-length-2 : tie.Need-same-length-2
-same-length-2 c = search needs
 
 returns-2 : tie.Need-returns-2
 returns-2 c =
@@ -51,9 +18,6 @@ returns-2 c =
     let a = s .args in
     let w = c .before .before .before .before .enum-told2 .given .1 in
     wrote-same (a .out .now) (turn-waits advancing (a .self) _ (a .line) w (waits-heard (a .self) _ (a .line) w (s .pre))) (c .before .before .wait .ensures)
-
-same-length-3 : tie.Need-same-length-3
-same-length-3 c = search needs
 
 returns-3 : tie.Need-returns-3
 returns-3 c =
@@ -66,22 +30,5 @@ returns-4 : tie.Need-returns-4
 returns-4 c = let a = c .before .before .before .before .before .before .args in wrote-quiet _ _ (a .out .now) (turn-ended advancing (a .self) _ (c .before .enum-told4 .given .1)) refl (c .quiet .ensures)
 
 pub turn-spec : {M : Type 1} → statement M
-turn-spec =
-    tie.close
-    (tie.spec
-    enum-told
-    take-on-requires
-    settle-requires
-    enum-told-2
-    wait-requires
-    enum-told-3
-    run-requires
-    enum-told-4
-    quiet-requires
-    same-length
-    returns
-    same-length-2
-    returns-2
-    same-length-3
-    returns-3
-    returns-4)
+turn-spec = tie.close (tie.spec (search needs) (search needs) (search needs) (search needs) (search needs) (search needs) (search needs) (search needs) (search needs)
+    (search needs) returns (search needs) returns-2 (search needs) returns-3 returns-4)

@@ -7,26 +7,12 @@ use Rattle.session.specs.Turn.{waitsFor}
 use Rattle.session.proofs.stage.Core.wait_for.Statement.{statement}
 use Rattle.session.proofs.stage.Core.wait_for.Tie as tie
 
-enum-known-head : tie.Need-enum-known-head
-enum-known-head c = search needs
-
-begin-requires : tie.Need-begin-requires
-begin-requires c κs = search needs
-
-refuse-requires : tie.Need-refuse-requires
-refuse-requires c κs = search needs
-
 returns : tie.Need-returns
 unfolding waitsFor
 returns c = let a = c .before .before .before .before .before .args in wrote-quiet _ _ (a .out .now) (ap (waitsFor (a .self)) (c .before .before .head .given .1)) refl (c .begin .ensures)
-
-same-length : tie.Need-same-length
-same-length c = search needs
 
 returns-2 : tie.Need-returns-2
 returns-2 c = let a = c .before .before .before .before .before .before .args in wrote-same (a .out .now) (waits-unlisted (a .self) (a .head) (c .before .before .before .before .match .keys2)) (c .before .before .refuse .ensures)
 
 pub wait-for-spec : {M : Type 1} → statement M
-wait-for-spec =
-    tie.close
-    (tie.spec enum-known-head begin-requires refuse-requires returns same-length returns-2)
+wait-for-spec = tie.close (tie.spec (search needs) (search needs) (search needs) returns (search needs) returns-2)

@@ -7,14 +7,8 @@ use borrow.Author.Needs.{needs}
 use Rattle.units.proofs.labels.RoundLabel.previous.Statement.{statement}
 use Rattle.units.proofs.labels.RoundLabel.previous.Tie as tie
 
-sub-t4 : tie.Need-sub-t4
-sub-t4 c = search needs
-
-returns : tie.Need-returns
-returns c = search needs
-
 returns-2 : tie.Need-returns-2
 returns-2 c = ap {B = StateLabel} (λ (n : ℕ). record { 0 = n }) (omega arith)
 
 pub previous-spec : {M : Type 1} → statement M
-previous-spec = tie.close (tie.spec sub-t4 returns returns-2)
+previous-spec = tie.close (tie.spec (search needs) (λ c. search needs) returns-2)

@@ -6,18 +6,12 @@ use borrow.Author.Needs.{needs}
 use Rattle.vote.proofs.digest.Digest.full.Statement.{statement}
 use Rattle.vote.proofs.digest.Digest.full.Tie as tie
 
-mask-end-requires : tie.Need-mask-end-requires
-mask-end-requires c κs = search needs
-
 sub-t4 : tie.Need-sub-t4
 sub-t4 c = omega (arith, some-mask (c .before .args .m))
-
-previous-requires : tie.Need-previous-requires
-previous-requires c κs = search needs
 
 returns : tie.Need-returns
 unfolding full
 returns c = cc
 
 pub full-spec : {M : Type 1} → statement M
-full-spec = tie.close (tie.spec mask-end-requires sub-t4 previous-requires returns)
+full-spec = tie.close (tie.spec (search needs) sub-t4 (search needs) returns)

@@ -4,12 +4,9 @@ use borrow.Author.Needs.{needs}
 use Rattle.vote.proofs.digest.Digest.same.Statement.{statement}
 use Rattle.vote.proofs.digest.Digest.same.Tie as tie
 
-same-requires : tie.Need-same-requires
-same-requires c κs = search needs
-
 returns : tie.Need-returns
 unfolding same
 returns c = cc
 
 pub same-spec : {M : Type 1} → statement M
-same-spec = tie.close (tie.spec same-requires returns)
+same-spec = tie.close (tie.spec (search needs) returns)
