@@ -21,10 +21,10 @@ withEstimates head estimates = record { head = head; readings = plain head .read
 abbrev pub withTargets : Head → List Float → Message
 withTargets head targets = record { head = head; readings = plain head .readings; estimates = plain head .estimates; targets = targets }
 
--- R has the readings asked for, U the estimates, S the targets that the state gives; the head stands twice, to be sent and to be looked at
-unfoldable pub sentMessage : Numbers → Controller → Head → Head → Message
-sentMessage s c head h =
+-- R has the readings asked for, U the estimates, S the targets that the state gives
+unfoldable pub sentMessage : Numbers → Controller → Head → Message
+sentMessage s c head =
     onReply (λ sender label mask. withReadings head (selected mask (c .readings)))
     (onUpdate (λ sender state. withEstimates head (c .estimates))
     (onIssue (λ sender label digest. withTargets head (setPoints s (c .estimates)))
-    (plain head) h) h) h
+    (plain head) head) head) head

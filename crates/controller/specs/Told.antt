@@ -18,7 +18,7 @@ noMessage = plain (Refused 0)
 -- a message that is sent, whole: its arrays are those of the controller after the step
 unfoldable pub wholeOf : Numbers → Controller → Sent → Message
 wholeOf s c Nothing = noMessage
-wholeOf s c (One head) = sentMessage s c head head
+wholeOf s c (One head) = sentMessage s c head
 
 unfoldable pub sentCount : Sent → ℕ
 sentCount Nothing = 0

@@ -60,7 +60,7 @@ impl Controller {
 
     // A message that this controller sends after a step: R has the readings asked for, U the estimates, S the targets of the state.
     pub fn message(self, numbers: Numbers, head: Head) -> Message
-        ensures { λ r. ⌜ r ≡ sentMessage numbers self head head ⌝ }
+        ensures { λ r. ⌜ r ≡ sentMessage numbers self head ⌝ }
     {
         match head {
             Head::Reply {

@@ -146,9 +146,9 @@ on-view P f z none = z
 on-view P f z (some v) = f v
 
 -- the head of a whole message is the one that was sent
-pub sent-head : (s : Numbers) (c : Controller) (head h : Head) → sentMessage s c head h .head ≡ head
+pub sent-head : (s : Numbers) (c : Controller) (head : Head) → sentMessage s c head .head ≡ head
 unfolding sentMessage plain
-sent-head s c head h = on-view Sends (λ v. refl) (on-view Sends (λ v. refl) (on-view Sends (λ v. refl) refl (asIssue h)) (asUpdate h)) (asReply h)
+sent-head s c head = on-view Sends (λ v. refl) (on-view Sends (λ v. refl) (on-view Sends (λ v. refl) refl (asIssue head)) (asUpdate head)) (asReply head)
   where
     Sends : Message → Type 0
     Sends m = m .head ≡ head

@@ -58,7 +58,7 @@ use Rattle.controller_laws.proofs.Valid.{legal-facts, Valid}
 use Rattle.controller_laws.proofs.Ways.{goes}
 
 -- ---- a plain kind is sent as its head alone
-pub sent-plain : (s : Numbers) (c : Controller) (head : Head) → isPlain head ≡ true → sentMessage s c head head ≡ plain head
+pub sent-plain : (s : Numbers) (c : Controller) (head : Head) → isPlain head ≡ true → sentMessage s c head ≡ plain head
 unfolding sentMessage
 sent-plain s c head e = let n = plain-seen head e in rw (n .0, n .1, n .2) refl
 
@@ -78,7 +78,7 @@ module _ (s : Numbers) (c : Controller) (fit : numbersFit s ≡ true) (v : Valid
 
   -- the message can be sent by a controller whose own number, label and mask are those of c
   abbrev Ready : Controller → Head → Type 0
-  Ready n head = messageFits (s .group) (sentMessage s n head head) ≡ true
+  Ready n head = messageFits (s .group) (sentMessage s n head) ≡ true
 
   sender : (x : Bool) → x ≡ true → (lib.Dec.ltb (c .own) (s .group .g) && x) ≡ true
   sender x h = and-both (lt-ltb _ _ (v .own)) h
@@ -176,10 +176,10 @@ one-of P x y p q head w = ⊎-elim (λ e. subst (OnSent P) e p) (λ e. subst (On
 
 module _ (s : Numbers) (c : Controller) (a : Message) where
   -- "every message answered is in range, so it can always be written": from any settings, state and message, as whole values
-  pub sent-fits : (head : Head) → IsSent (stepped s c a) head → messageFits (s .group) (sentMessage s (stepped s c a .next) head head) ≡ true
+  pub sent-fits : (head : Head) → IsSent (stepped s c a) head → messageFits (s .group) (sentMessage s (stepped s c a .next) head) ≡ true
   sent-fits = way (goes s c a)
     where
-      way : {r : Answer} → Goes s c a r → (head : Head) → IsSent r head → messageFits (s .group) (sentMessage s (r .next) head head) ≡ true
+      way : {r : Answer} → Goes s c a r → (head : Head) → IsSent r head → messageFits (s .group) (sentMessage s (r .next) head) ≡ true
       way (out e) = one-of _ Nothing Nothing tt tt
       way (led {p} e w) = let q = inputs s c a e in let k = way-ready s c (q .numbers) (q .valid) a w in one-of _ (p .first) (p .second) (k .0) (k .1)
 

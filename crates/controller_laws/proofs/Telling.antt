@@ -32,14 +32,14 @@ module _ (s : Numbers) (r : Answer) (gap : r .first ≡ Nothing → r .second �
   ahead Nothing e head q = none-sent (sym (gap e) ∙ q)
   ahead (One one) e head q = refl
 
-  whole-told : (head : Head) → IsSent r head → Tells (told s r) (sentMessage s (r .next) head head)
+  whole-told : (head : Head) → IsSent r head → Tells (told s r) (sentMessage s (r .next) head)
   unfolding told wholeOf
   whole-told head =
       ⊎-elim (λ e. inl (let k = some (r .first) head e in omega arith, ap (wholeOf s (r .next)) e))
       (λ e. inr (let k = some (r .second) head e in let j = ahead (r .first) refl head e in omega arith, ap (wholeOf s (r .next)) e))
 
   abbrev Named : Message → Type 0
-  Named x = (head : Head) × IsSent r head × (x ≡ sentMessage s (r .next) head head)
+  Named x = (head : Head) × IsSent r head × (x ≡ sentMessage s (r .next) head)
 
   first-named : (y : Sent) → r .first ≡ y → (x : Message) → 1 ≤ sentCount (r .first) + sentCount (r .second) → wholeOf s (r .next) y ≡ x → Named x
   unfolding wholeOf sentCount
@@ -62,10 +62,10 @@ module _ (s : Numbers) (c : Controller) (a : Message) where
   told-few = omega (arith, few (stepped s c a .first), few (stepped s c a .second))
 
   -- each message that is sent is told of, whole ..
-  pub told-sent : (head : Head) → IsSent (stepped s c a) head → Tells (told s (stepped s c a)) (sentMessage s (stepped s c a .next) head head)
+  pub told-sent : (head : Head) → IsSent (stepped s c a) head → Tells (told s (stepped s c a)) (sentMessage s (stepped s c a .next) head)
   told-sent = whole-told s (stepped s c a) (sent-in-order s c a)
 
   -- .. and no other
   pub told-only : (x : Message) → Tells (told s (stepped s c a)) x
-      → (head : Head) × IsSent (stepped s c a) head × (x ≡ sentMessage s (stepped s c a .next) head head)
+      → (head : Head) × IsSent (stepped s c a) head × (x ≡ sentMessage s (stepped s c a .next) head)
   told-only = told-named s (stepped s c a) (sent-in-order s c a)

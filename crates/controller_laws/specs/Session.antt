@@ -45,7 +45,7 @@ line s a =
 
 unfoldable pub whole : Numbers → Controller → Sent → List Line → List Line
 whole s c Nothing more = more
-whole s c (One head) more = line (s .group) (sentMessage s c head head) ∷ more
+whole s c (One head) more = line (s .group) (sentMessage s c head) ∷ more
 
 unfoldable pub said : Numbers → Answer → Said
 said s r = record { sent = whole s (r .next) (r .first) (whole s (r .next) (r .second) []); number = verdictNumber (r .verdict) }

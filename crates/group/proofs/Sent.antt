@@ -73,7 +73,7 @@ risen-by s h n e = by-kind (λ (k : Head). rising s k ≡ some n → Risen s k n
 pub record Fresh (s : Numbers) (r : Answer) (x : Message) : Type 0 where
   pub head : Head
   pub out : IsSent r head
-  pub whole : x ≡ sentMessage s (r .next) head head
+  pub whole : x ≡ sentMessage s (r .next) head
 
 module _ (s : Numbers) (r : Answer) (x : Message) (old : List Message) where
   in-sending : (t : Sent) → ((head : Head) → t ≡ One head → IsSent r head) → List·Memᴰ x (sending s (r .next) t old) → Fresh s r x ⊎ List·Memᴰ x old
@@ -96,17 +96,17 @@ module _ (s : Numbers) (r : Answer) (old : List Message) where
   still-sent x m = past-sending s r x (sending s (r .next) (r .first) old) (r .second) (past-sending s r x old (r .first) m)
 
   -- what a step sends is there
-  pub now-sent : (head : Head) → IsSent r head → List·Memᴰ (sentMessage s (r .next) head head) (sentBy s r old)
+  pub now-sent : (head : Head) → IsSent r head → List·Memᴰ (sentMessage s (r .next) head) (sentBy s r old)
   now-sent head (inl e) = past-sending s r _ (sending s (r .next) (r .first) old) (r .second) (first (r .first) e)
     where
-      first : (t : Sent) → t ≡ One head → List·Memᴰ (sentMessage s (r .next) head head) (sending s (r .next) t old)
-      first t e = subst (λ (u : Sent). List·Memᴰ (sentMessage s (r .next) head head) (sending s (r .next) u old)) (sym e) (List·Memᴰ·head refl)
+      first : (t : Sent) → t ≡ One head → List·Memᴰ (sentMessage s (r .next) head) (sending s (r .next) t old)
+      first t e = subst (λ (u : Sent). List·Memᴰ (sentMessage s (r .next) head) (sending s (r .next) u old)) (sym e) (List·Memᴰ·head refl)
   now-sent head (inr e) =
-      subst (λ (u : Sent). List·Memᴰ (sentMessage s (r .next) head head) (sending s (r .next) u (sending s (r .next) (r .first) old))) (sym e) (List·Memᴰ·head refl)
+      subst (λ (u : Sent). List·Memᴰ (sentMessage s (r .next) head) (sending s (r .next) u (sending s (r .next) (r .first) old))) (sym e) (List·Memᴰ·head refl)
 
   -- the head of a fresh message is the one sent
   pub fresh-head : (x : Message) (f : Fresh s r x) → x .head ≡ f .head
-  fresh-head x f = ap (λ (y : Message). y .head) (f .whole) ∙ sent-head s (r .next) (f .head) (f .head)
+  fresh-head x f = ap (λ (y : Message). y .head) (f .whole) ∙ sent-head s (r .next) (f .head)
 
   -- a vote released is an older one, or goes out by this step
   pub released-by : (i : ℕ) (label : RoundLabel) (d : Digest) → Released (sentBy s r old) i label d → IsSent r (Vote i label d) ⊎ Released old i label d

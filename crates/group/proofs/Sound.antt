@@ -148,7 +148,7 @@ module _ (s : Numbers) (meters : Meters) (sent : List Message) (lines : (x : Mes
 
     -- R that goes out has the meters' readings
     said-readings : {head : Head} → SentBy s c (a .head) n head → (j : ℕ) (l : RoundLabel) (mask : ℕ) → head ≡ Reply j l mask
-        → (i : ℕ) → i < 16 → inMask mask i ≡ true → getD (sentMessage s n head head .readings) i 0 ≡ meters l i
+        → (i : ℕ) → i < 16 → inMask mask i ≡ true → getD (sentMessage s n head .readings) i 0 ≡ meters l i
     unfolding sentMessage
     said-readings (reply asked e) j l mask q i k p =
         let m : mask ≡ bitAnd asked (c .held) = cc in
@@ -165,7 +165,7 @@ module _ (s : Numbers) (meters : Meters) (sent : List Message) (lines : (x : Mes
     said-readings (setpoints t) j l mask q i k p = absurd-by (cc)
 
     -- U that goes out has the state of its state label
-    said-state : {head : Head} → SentBy s c (a .head) n head → (j : ℕ) (l : StateLabel) → head ≡ Update j l → Can l (sentMessage s n head head .estimates)
+    said-state : {head : Head} → SentBy s c (a .head) n head → (j : ℕ) (l : StateLabel) → head ≡ Update j l → Can l (sentMessage s n head .estimates)
     unfolding sentMessage
     said-state (update e) j l q = canon-as (let z : c .state ≡ l = cc in z) (ap (λ (x : Controller). x .estimates) (sym e)) (f .state)
     said-state (query e) j l q = absurd-by (cc)
@@ -176,7 +176,7 @@ module _ (s : Numbers) (meters : Meters) (sent : List Message) (lines : (x : Mes
     said-state (setpoints t) j l q = absurd-by (cc)
 
     -- S that goes out is what it must be
-    said-issue : {head : Head} → SentBy s c (a .head) n head → (j : ℕ) (l : RoundLabel) (d : Digest) → head ≡ Setpoints j l d → Right s meters sent l d (sentMessage s n head head .targets)
+    said-issue : {head : Head} → SentBy s c (a .head) n head → (j : ℕ) (l : RoundLabel) (d : Digest) → head ≡ Setpoints j l d → Right s meters sent l d (sentMessage s n head .targets)
     unfolding sentMessage
     said-issue (setpoints {chosen} t) j l d q =
         let x : c .label ≡ l = cc in
@@ -195,9 +195,9 @@ module _ (s : Numbers) (meters : Meters) (sent : List Message) (lines : (x : Mes
         let w = sent-by s c a (g .head) (g .out) in
         subst Says (sym (g .whole))
         (record {
-          readings = λ j l mask q. said-readings w j l mask (sym (sent-head s n (g .head) (g .head)) ∙ q);
-          state = λ j l q. said-state w j l (sym (sent-head s n (g .head) (g .head)) ∙ q);
-          issue = λ j l d q. said-issue w j l d (sym (sent-head s n (g .head) (g .head)) ∙ q);
+          readings = λ j l mask q. said-readings w j l mask (sym (sent-head s n (g .head)) ∙ q);
+          state = λ j l q. said-state w j l (sym (sent-head s n (g .head)) ∙ q);
+          issue = λ j l d q. said-issue w j l d (sym (sent-head s n (g .head)) ∙ q);
         })
 
   -- ---- the world
@@ -229,15 +229,15 @@ module _ (s : Numbers) (meters : Meters) (sent : List Message) (lines : (x : Mes
     known = heard w o (λ x m. sub x (still-sent s r (w .sent) x m)) i a p
 
     -- what goes out is among the messages of the whole run
-    out-there : (head : Head) → IsSent r head → List·Memᴰ (sentMessage s (r .next) head head) sent
+    out-there : (head : Head) → IsSent r head → List·Memᴰ (sentMessage s (r .next) head) sent
     out-there head e = sub _ (now-sent s r (w .sent) head e)
 
     votes-out : (j : ℕ) (label : RoundLabel) (d : Digest) → IsSent r (Vote j label d) → Released sent j label d
-    votes-out j label d e = record { line = sentMessage s (r .next) (Vote j label d) (Vote j label d); among = out-there (Vote j label d) e; said = sent-head s (r .next) _ (Vote j label d) }
+    votes-out j label d e = record { line = sentMessage s (r .next) (Vote j label d); among = out-there (Vote j label d) e; said = sent-head s (r .next) (Vote j label d) }
 
     issues-out : (j : ℕ) (label : RoundLabel) (d : Digest) → IsSent r (Setpoints j label d) → Issued s meters sent label d
     issues-out j label d e =
-        record { line = sentMessage s (r .next) (Setpoints j label d) (Setpoints j label d); among = out-there (Setpoints j label d) e; by = j; said = sent-head s (r .next) _ (Setpoints j label d) }
+        record { line = sentMessage s (r .next) (Setpoints j label d); among = out-there (Setpoints j label d) e; by = j; said = sent-head s (r .next) (Setpoints j label d) }
 
     sound-answered : Sound (afterAnswer s w i (a .head) r)
     sound-answered =

@@ -112,13 +112,13 @@ module _ (s : Numbers) where
   puts-sent : (n : Controller) (t : Sent) (rest : List ℕ) (old : List (List ℕ)) → puts (linesOf (sentText s n t ++ rest)) old ≡ puts (linesOf rest) (spelling s n t old)
   unfolding sentText puts
   puts-sent n Nothing rest old = refl
-  puts-sent n (One head) rest old = rw (line-first (s .group) (sentMessage s n head head) rest)
+  puts-sent n (One head) rest old = rw (line-first (s .group) (sentMessage s n head) rest)
 
   puts-answer : (r : Answer) (old : List (List ℕ)) → puts (linesOf (answerText s r)) old ≡ puts (linesOf (verdictText (r .verdict))) (spelledBy s r old)
   unfolding answerText
   puts-answer r old = puts-sent (r .next) (r .first) _ old ∙ puts-sent (r .next) (r .second) _ (spelling s (r .next) (r .first) old)
 
-  spoken-spelled : (n : Controller) (t : Sent) (old : List (List ℕ)) → ((head : Head) → t ≡ One head → readLine (s .group) (spellLine (s .group) (sentMessage s n head head)) .verdict ≡ Taken)
+  spoken-spelled : (n : Controller) (t : Sent) (old : List (List ℕ)) → ((head : Head) → t ≡ One head → readLine (s .group) (spellLine (s .group) (sentMessage s n head)) .verdict ≡ Taken)
       → spoken s (spelling s n t old) ≡ spelling s n t (spoken s old)
   unfolding spoken
   spoken-spelled n Nothing old f = refl
@@ -157,7 +157,7 @@ whole-refusal s why = subst Whole (sym (refusal-is s why)) (whole-line s (plain 
 whole-sent : (s : Numbers) (n : Controller) (t : Sent) → Whole (sentText s n t)
 unfolding sentText
 whole-sent s n Nothing = whole-none
-whole-sent s n (One head) = whole-line (s .group) (sentMessage s n head head)
+whole-sent s n (One head) = whole-line (s .group) (sentMessage s n head)
 
 whole-verdict : (s : Group) (v : Verdict) → Whole (verdictText v)
 unfolding verdictText

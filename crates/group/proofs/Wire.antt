@@ -53,9 +53,9 @@ abbrev Bare : Message → Type 0
 Bare x = (i : ℕ) (label : RoundLabel) (d : Digest) → x .head ≡ Setpoints i label d → x ≡ withTargets (Setpoints i label d) (x .targets)
 
 bare-sent : (s : Numbers) (n : Controller) (h k : Head) → h ≡ k → (i : ℕ) (label : RoundLabel) (d : Digest) → k ≡ Setpoints i label d
-    → sentMessage s n h h ≡ withTargets (Setpoints i label d) (sentMessage s n h h .targets)
+    → sentMessage s n h ≡ withTargets (Setpoints i label d) (sentMessage s n h .targets)
 unfolding sentMessage
-bare-sent s n h k p i label d q = subst (λ (x : Head). sentMessage s n x x ≡ withTargets (Setpoints i label d) (sentMessage s n x x .targets)) (sym (p ∙ q)) refl
+bare-sent s n h k p i label d q = subst (λ (x : Head). sentMessage s n x ≡ withTargets (Setpoints i label d) (sentMessage s n x .targets)) (sym (p ∙ q)) refl
 
 module _ (s : Numbers) (meters : Meters) where
   -- what is written is read back

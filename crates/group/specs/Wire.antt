@@ -29,7 +29,7 @@ Wire = WorldOf Controller (List ℕ)
 -- what a step sends, as lines
 abbrev pub spelling : Numbers → Controller → Sent → List (List ℕ) → List (List ℕ)
 spelling s c Nothing before = before
-spelling s c (One head) before = spellLine (s .group) (sentMessage s c head head) ∷ before
+spelling s c (One head) before = spellLine (s .group) (sentMessage s c head) ∷ before
 
 abbrev pub spelledBy : Numbers → Answer → List (List ℕ) → List (List ℕ)
 spelledBy s r before = spelling s (r .next) (r .second) (spelling s (r .next) (r .first) before)

@@ -85,7 +85,7 @@ Event = EventOf Message
 -- what a step sends, as whole messages, ahead of what was sent before
 abbrev pub sending : Numbers → Controller → Sent → List Message → List Message
 sending s c Nothing before = before
-sending s c (One head) before = sentMessage s c head head ∷ before
+sending s c (One head) before = sentMessage s c head ∷ before
 
 abbrev pub sentBy : Numbers → Answer → List Message → List Message
 sentBy s r before = sending s (r .next) (r .second) (sending s (r .next) (r .first) before)

@@ -104,7 +104,7 @@ module _ (s : Numbers) (c : Controller) (a : Message) where
         given = ap (λ (k : Controller). setPoints s (k .estimates)) (t .next);
       }
 
-  sent-issue : {head : Head} → SentBy s c (a .head) n head → (j : ℕ) (l : RoundLabel) (chosen : Digest) → head ≡ Setpoints j l chosen → Issued s c (a .head) chosen n (sentMessage s n head head .targets)
+  sent-issue : {head : Head} → SentBy s c (a .head) n head → (j : ℕ) (l : RoundLabel) (chosen : Digest) → head ≡ Setpoints j l chosen → Issued s c (a .head) chosen n (sentMessage s n head .targets)
   unfolding sentMessage
   sent-issue (setpoints {chosen} t) j l d q = let y : chosen ≡ d = cc in subst (λ (k : Digest). Issued s c (a .head) k n (setPoints s (n .estimates))) y (settled-issue t)
   sent-issue (query e) j l chosen q = absurd-by (cc)
@@ -115,7 +115,7 @@ module _ (s : Numbers) (c : Controller) (a : Message) where
   sent-issue (vote e p) j l chosen q = absurd-by (cc)
 
   issue-computed : (sender : ℕ) (label : RoundLabel) (chosen : Digest) → IsSent (stepped s c a) (Setpoints sender label chosen)
-      → Issued s c (a .head) chosen n (sentMessage s n (Setpoints sender label chosen) (Setpoints sender label chosen) .targets)
+      → Issued s c (a .head) chosen n (sentMessage s n (Setpoints sender label chosen) .targets)
   issue-computed sender label chosen e = sent-issue (sent-by s c a (Setpoints sender label chosen) e) sender label chosen refl
 
 pub record Demand2 : Type 0 where
@@ -125,7 +125,7 @@ pub record Demand2 : Type 0 where
   pub one-spelling : (s : Group) (line : List ℕ) (a : Message) → readLine s line ≡ taken a → Spelt s line a
   -- .. whatever a step sends is read back as it was sent ..
   pub sent-read : (s : Numbers) (c : Controller) (a : Message) (head : Head) → IsSent (stepped s c a) head
-      → readLine (s .group) (spellLine (s .group) (sentMessage s (stepped s c a .next) head head)) ≡ taken (sentMessage s (stepped s c a .next) head head)
+      → readLine (s .group) (spellLine (s .group) (sentMessage s (stepped s c a .next) head)) ≡ taken (sentMessage s (stepped s c a .next) head)
   -- .. and so with the settings: written and read again they are the same; what is accepted is in range, and spelled as it would be written
   pub settings-read : (s : Settings) → settingsFit s ≡ true → settleAll (settingLines s) settlingStart ≡ wholeAt (record { line = 3 + s .numbers .group .m; settings = s })
   pub settings-spelling : (lines : List (List ℕ)) (end : Settling) → settleAll lines settlingStart ≡ wholeAt end → SettingsSpelt lines (end .settings)
@@ -134,7 +134,7 @@ pub record Demand2 : Type 0 where
   pub each-step : (c : Core) (line : List ℕ) → c .stage ≡ Running → readLine (groupIn c) line .verdict ≡ Taken → turn c line ≡ stepTurn c (stepBy c line)
   -- .. whenever an S goes out, it names what the votes held are decided for and what is here, and the state after it and its targets are filter's `computed` in IEEE 754 binary64, of what the controller held ..
   pub each-issue : (s : Numbers) (c : Controller) (a : Message) (sender : ℕ) (label : RoundLabel) (chosen : Digest) → IsSent (stepped s c a) (Setpoints sender label chosen)
-      → Issued s c (a .head) chosen (stepped s c a .next) (sentMessage s (stepped s c a .next) (Setpoints sender label chosen) (Setpoints sender label chosen) .targets)
+      → Issued s c (a .head) chosen (stepped s c a .next) (sentMessage s (stepped s c a .next) (Setpoints sender label chosen) .targets)
   -- .. and whenever a vote is taken in while voting, it is judged: decided and here, S goes out; decided and not here, 13; decided for no digest, nothing more ..
   pub each-vote : (s : Numbers) (c : Controller) (a : Message) → inputsFit s c a ≡ true → {seat : ℕ} {digest : Digest} {first : Sent} → TakenIn c (a .head) seat digest first
       → Judged s c seat digest first (stepped s c a)

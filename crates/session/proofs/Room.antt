@@ -50,7 +50,7 @@ verdict-short (Refused why) = refusal-room why
 pub fit-short : (s : Numbers) (c : Controller) (head : Head) → length (fitText s c head) ≤ lineTop
 unfolding fitText pick
 fit-short s c head =
-    let a = sentMessage s c head head in
+    let a = sentMessage s c head in
     by-test (messageFits (s .group) a) (λ e. rw e (write-room (s .group) a e)) (λ e. rw e (omega arith))
 
 pub rest-short : (s : Numbers) (c : Controller) (v : Verdict) (second : Sent) → length (restText s c v second) ≤ lineTop

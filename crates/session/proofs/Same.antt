@@ -38,7 +38,7 @@ step-same s c a f g h = rw (f, g, h)
 
 -- up to two lines, all in range, with no gap, and a refusal after one at most
 module _ (s : Numbers) (n : Controller) where
-  texts : (first second : Sent) (v : Verdict) → ((head : Head) → (first ≡ One head) ⊎ (second ≡ One head) → messageFits (s .group) (sentMessage s n head head) ≡ true)
+  texts : (first second : Sent) (v : Verdict) → ((head : Head) → (first ≡ One head) ⊎ (second ≡ One head) → messageFits (s .group) (sentMessage s n head) ≡ true)
       → (first ≡ Nothing → second ≡ Nothing) → ((head : Head) → second ≡ One head → v ≡ Taken)
       → putText s n second v first ≡ sentText s n first ++ (sentText s n second ++ verdictText v)
   unfolding putText restText fitText sentText verdictText pick
@@ -46,7 +46,7 @@ module _ (s : Numbers) (n : Controller) where
   texts Nothing (One k) v fit order two = let e = order refl in absurd-by (cc)
   texts (One h) Nothing v fit order two = rw (fit h (inl refl))
   texts (One h) (One k) v fit order two =
-      rw (fit h (inl refl), fit k (inr refl), two k refl) (ap (λ (l : List ℕ). spellLine (s .group) (sentMessage s n h h) ++ l) (sym (append-nil (spellLine (s .group) (sentMessage s n k k)))))
+      rw (fit h (inl refl), fit k (inr refl), two k refl) (ap (λ (l : List ℕ). spellLine (s .group) (sentMessage s n h) ++ l) (sym (append-nil (spellLine (s .group) (sentMessage s n k)))))
 
 advancing-same : (c : Core) (a : Message) → numbersFit (numbersIn c) ≡ true → controllerFits (numbersIn c) (c .controller) ≡ true → messageFits (groupIn c) a ≡ true → advancing c a ≡ stepping c a
 unfolding answerText

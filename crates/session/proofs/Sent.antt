@@ -31,7 +31,7 @@ sent-not-x (setpoints w d) = refl
 
 module _ (s : Numbers) (c : Controller) (a : Message) (head : Head) where
   abbrev pub sent : Message
-  sent = sentMessage s (stepped s c a .next) head head
+  sent = sentMessage s (stepped s c a .next) head
 
   pub sent-back : IsSent (stepped s c a) head → readLine (s .group) (spellLine (s .group) sent) ≡ taken sent
-  sent-back i = read-write (s .group) sent (sent-fits s c a head i) (ap notX (sent-head s (stepped s c a .next) head head) ∙ sent-not-x (sent-few s c a head i))
+  sent-back i = read-write (s .group) sent (sent-fits s c a head i) (ap notX (sent-head s (stepped s c a .next) head) ∙ sent-not-x (sent-few s c a head i))

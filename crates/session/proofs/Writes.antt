@@ -71,7 +71,7 @@ or-puts true t before e h = (e ∙ ap orNothing (h .0) ∙ or-answer t before, h
 or-puts false t before e h = let p = puts-none before in (e ∙ ap orNothing (h .0) ∙ p .0, h .1 ∙ p .1)
 
 -- a message that is sent, as the writer writes it
-pub fit-puts : (s : Numbers) (c : Controller) (head : Head) (m : Message) → m ≡ sentMessage s c head head → (before : List ℕ) {after : List ℕ} {w r : Written} → r ≡ orNothing w
+pub fit-puts : (s : Numbers) (c : Controller) (head : Head) (m : Message) → m ≡ sentMessage s c head → (before : List ℕ) {after : List ℕ} {w r : Written} → r ≡ orNothing w
     → (w ≡ writeAnswer (messageFits (s .group) m) (spellLine (s .group) m) before) × (after ≡ writeBuffer (messageFits (s .group) m) (spellLine (s .group) m) before) → Puts (fitText s c head) before after r
 unfolding fitText
 fit-puts s c head m me before e h = rw (← me) (or-puts (messageFits (s .group) m) (spellLine (s .group) m) before e h)

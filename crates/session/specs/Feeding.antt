@@ -43,7 +43,7 @@ abbrev pub advanced : Numbers → Controller → Message → Answer
 advanced s c a = carriedOut s c a (planned s c a (a .head))
 
 unfoldable pub fitText : Numbers → Controller → Head → List ℕ
-fitText s c head = pick (messageFits (s .group) (sentMessage s c head head)) (spellLine (s .group) (sentMessage s c head head)) []
+fitText s c head = pick (messageFits (s .group) (sentMessage s c head)) (spellLine (s .group) (sentMessage s c head)) []
 
 -- the writer's 6 counts as nothing written
 unfoldable pub orNothing : Written → Written

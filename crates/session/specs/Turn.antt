@@ -72,7 +72,7 @@ hears go c a (Refused why) = refusing c why
 -- the line of a message that was sent, after the step
 unfoldable pub sentText : Numbers → Controller → Sent → List ℕ
 sentText s c Nothing = []
-sentText s c (One head) = spellLine (s .group) (sentMessage s c head head)
+sentText s c (One head) = spellLine (s .group) (sentMessage s c head)
 
 unfoldable pub verdictText : Verdict → List ℕ
 verdictText Taken = []

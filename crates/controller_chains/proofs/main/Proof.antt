@@ -11,6 +11,6 @@ abbrev μ-loop : tie.MeasureT-loop
 μ-loop numbers c₀ i₀ c i = 106 - i
 
 pub main-spec : {M : Type 1} → statement M
-main-spec = tie.close (tie.spec Inv-loop μ-loop (search needs) (search needs) (search needs) (search needs) (search needs) (search needs) (search needs) (search needs)
+main-spec = tie.close (tie.spec Inv-loop μ-loop (search needs) (search needs) (λ c. search needs) (search needs) (search needs) (search needs) (search needs)
     (search needs) (search needs) (search needs) (search needs) (search needs) (search needs) (search needs) (search needs) (search needs) (search needs) (search needs)
-    (search needs) (search needs) (search needs) (search needs) (search needs) (search needs) (λ c. search needs))
+    (search needs) (search needs) (search needs) (λ c. search needs) (λ c. search needs) (search needs) (search needs) (λ c. search needs))

@@ -11,5 +11,5 @@ abbrev μ-loop : tie.MeasureT-loop
 μ-loop station numbers m state₀ i₀ state i = 16 - i
 
 pub play-spec : {M : Type 1} → statement M
-play-spec = tie.close (tie.spec Inv-loop μ-loop (search needs) (search needs) (search needs) (search needs) (search needs) (search needs) (search needs) (search needs)
-    (search needs) (search needs) (search needs) (search needs) (search needs) (search needs) (search needs) (search needs) (λ c. search needs))
+play-spec = tie.close (tie.spec Inv-loop μ-loop (search needs) (search needs) (λ c. search needs) (search needs) (search needs) (search needs) (search needs)
+    (search needs) (search needs) (search needs) (search needs) (search needs) (search needs) (search needs) (λ c. search needs) (λ c. search needs) (λ c. search needs))

@@ -11,4 +11,4 @@ abbrev μ-loop : tie.MeasureT-loop
 μ-loop j₀ j = 200 - j
 
 pub play-alone-spec : {M : Type 1} → statement M
-play-alone-spec = tie.close (tie.spec Inv-loop μ-loop (search needs) (search needs) (search needs) (search needs) (search needs) (λ c. search needs))
+play-alone-spec = tie.close (tie.spec Inv-loop μ-loop (λ c. search needs) (search needs) (search needs) (λ c. search needs) (λ c. search needs) (λ c. search needs))

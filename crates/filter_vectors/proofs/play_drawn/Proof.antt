@@ -11,4 +11,4 @@ abbrev μ-loop : tie.MeasureT-loop
 μ-loop station₀ station = 144 - station
 
 pub play-drawn-spec : {M : Type 1} → statement M
-play-drawn-spec = tie.close (tie.spec Inv-loop μ-loop (search needs) (search needs) (search needs) (search needs) (search needs) (λ c. search needs))
+play-drawn-spec = tie.close (tie.spec Inv-loop μ-loop (λ c. search needs) (search needs) (search needs) (λ c. search needs) (λ c. search needs) (λ c. search needs))

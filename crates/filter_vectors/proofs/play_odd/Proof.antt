@@ -11,4 +11,4 @@ abbrev μ-loop : tie.MeasureT-loop
 μ-loop k₀ k = 36 - k
 
 pub play-odd-spec : {M : Type 1} → statement M
-play-odd-spec = tie.close (tie.spec Inv-loop μ-loop (search needs) (search needs) (search needs) (search needs) (search needs) (λ c. search needs))
+play-odd-spec = tie.close (tie.spec Inv-loop μ-loop (λ c. search needs) (search needs) (search needs) (λ c. search needs) (λ c. search needs) (λ c. search needs))

@@ -13,5 +13,5 @@ abbrev μ-loop : tie.MeasureT-loop
 μ-loop v last line₀ left₀ i₀ line left i = 16 - i
 
 pub put-spec : {M : Type 1} → statement M
-put-spec = tie.close (tie.spec Inv-loop μ-loop (search needs) (search needs) (search needs) (search needs) (search needs) (search needs) (search needs) (search needs)
-    (λ c. search needs) (search needs) (λ c. search needs))
+put-spec = tie.close (tie.spec Inv-loop μ-loop (λ c. search needs) (search needs) (search needs) (search needs) (search needs) (λ c. search needs) (λ c. search needs)
+    (search needs) (λ c. search needs) (search needs) (λ c. search needs))

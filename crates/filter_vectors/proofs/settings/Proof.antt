@@ -13,6 +13,6 @@ abbrev μ-loop : tie.MeasureT-loop
 μ-loop station n m factors₀ weights₀ i₀ factors weights i = 16 - i
 
 pub settings-spec : {M : Type 1} → statement M
-settings-spec = tie.close (tie.spec Inv-loop μ-loop (search needs) (search needs) (search needs) (search needs) (search needs) (search needs) (search needs)
-    (search needs) (search needs) (search needs) (search needs) (search needs) (search needs) (search needs) (search needs) (search needs) (search needs) (search needs)
-    (search needs) (search needs) (search needs) (search needs) (search needs) (λ c. search needs))
+settings-spec = tie.close (tie.spec Inv-loop μ-loop (search needs) (search needs) (search needs) (λ c. search needs) (search needs) (search needs) (search needs)
+    (search needs) (search needs) (search needs) (search needs) (search needs) (search needs) (search needs) (search needs) (λ c. search needs) (λ c. search needs)
+    (search needs) (search needs) (search needs) (search needs) (search needs) (search needs) (λ c. search needs))

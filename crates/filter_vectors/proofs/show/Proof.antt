@@ -11,6 +11,6 @@ abbrev μ-loop : tie.MeasureT-loop
 μ-loop m state targets i₀ i = 16 - i
 
 pub show-spec : {M : Type 1} → statement M
-show-spec = tie.close (tie.spec Inv-loop μ-loop (search needs) (λ c. search needs) (search needs) (λ c. search needs) (λ c. search needs) (search needs) (search needs)
-    (λ c. search needs) (search needs) (search needs) (search needs) (search needs) (search needs) (search needs) (search needs) (search needs) (search needs)
-    (search needs) (search needs) (search needs) (search needs) (λ c. search needs))
+show-spec = tie.close (tie.spec Inv-loop μ-loop (search needs) (λ c. search needs) (search needs) (λ c. search needs) (λ c. search needs) (search needs)
+    (λ c. search needs) (λ c. search needs) (search needs) (search needs) (search needs) (search needs) (search needs) (search needs) (search needs) (search needs)
+    (search needs) (search needs) (search needs) (λ c. search needs) (λ c. search needs) (λ c. search needs))

@@ -13,5 +13,5 @@ abbrev μ-loop : tie.MeasureT-loop
 μ-loop station m p n state₀ i₀ state i = 16 - i
 
 pub start-spec : {M : Type 1} → statement M
-start-spec = tie.close (tie.spec Inv-loop μ-loop (search needs) (search needs) (search needs) (search needs) (search needs) (search needs) (search needs) (search needs)
-    (search needs) (search needs) (search needs) (search needs) (search needs) (λ c. search needs))
+start-spec = tie.close (tie.spec Inv-loop μ-loop (search needs) (λ c. search needs) (search needs) (search needs) (search needs) (search needs) (search needs)
+    (search needs) (search needs) (search needs) (search needs) (λ c. search needs) (λ c. search needs) (λ c. search needs))

@@ -13,6 +13,6 @@ abbrev μ-loop : tie.MeasureT-loop
 μ-loop head₀ space₀ settling₀ entry₀ head space settling entry = 1000000 - entry
 
 pub main-spec : {M : Type 1} → statement M
-main-spec = tie.close (tie.spec Inv-loop μ-loop (search needs) (search needs) (λ c. search needs) (search needs) (λ c. search needs) (search needs) (search needs)
-    (search needs) (search needs) (search needs) (search needs) (search needs) (search needs) (λ c. search needs) (search needs) (search needs) (search needs)
-    (search needs) (λ c. search needs))
+main-spec = tie.close (tie.spec Inv-loop μ-loop (search needs) (λ c. search needs) (λ c. search needs) (search needs) (λ c. search needs) (search needs) (search needs)
+    (search needs) (search needs) (search needs) (search needs) (search needs) (search needs) (λ c. search needs) (search needs) (search needs) (λ c. search needs)
+    (λ c. search needs) (λ c. search needs))

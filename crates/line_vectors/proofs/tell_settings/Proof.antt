@@ -11,5 +11,5 @@ abbrev μ-loop : tie.MeasureT-loop
 μ-loop factors weights certificates i₀ t7 i = 16 - i
 
 pub tell-settings-spec : {M : Type 1} → statement M
-tell-settings-spec = tie.close (tie.spec Inv-loop μ-loop (search needs) (search needs) (search needs) (search needs) (search needs) (search needs) (search needs)
-    (search needs) (search needs) (search needs) (search needs) (search needs) (λ c. search needs) (search needs) (λ c. search needs))
+tell-settings-spec = tie.close (tie.spec Inv-loop μ-loop (search needs) (λ c. search needs) (search needs) (search needs) (search needs) (search needs) (search needs)
+    (search needs) (search needs) (search needs) (λ c. search needs) (λ c. search needs) (λ c. search needs) (search needs) (λ c. search needs))

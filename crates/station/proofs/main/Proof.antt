@@ -12,5 +12,5 @@ abbrev μ-loop : tie.MeasureT-loop
 μ-loop session₀ block₀ out₀ read₀ written₀ left₀ session block out read written left = left
 
 pub main-spec : {M : Type 1} → statement M
-main-spec = tie.close (tie.spec Inv-loop μ-loop (search needs) (search needs) (search needs) (λ c. search needs) (λ c. search needs) (search needs) (search needs)
-    (search needs) (search needs) (search needs) (search needs) (search needs) (search needs) (search needs) (λ c. search needs))
+main-spec = tie.close (tie.spec Inv-loop μ-loop (search needs) (search needs) (search needs) (λ c. search needs) (λ c. search needs) (search needs) (λ c. search needs)
+    (search needs) (search needs) (search needs) (search needs) (λ c. search needs) (λ c. search needs) (search needs) (λ c. search needs))

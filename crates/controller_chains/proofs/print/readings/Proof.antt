@@ -11,5 +11,5 @@ abbrev μ-loop : tie.MeasureT-loop
 μ-loop mask raws i₀ i = 16 - i
 
 pub readings-spec : {M : Type 1} → statement M
-readings-spec = tie.close (tie.spec Inv-loop μ-loop (search needs) (search needs) (search needs) (search needs) (search needs) (search needs) (search needs)
-    (search needs) (λ c. search needs))
+readings-spec = tie.close (tie.spec Inv-loop μ-loop (λ c. search needs) (search needs) (search needs) (search needs) (search needs) (search needs) (λ c. search needs)
+    (λ c. search needs) (λ c. search needs))

@@ -11,5 +11,5 @@ abbrev μ-loop : tie.MeasureT-loop
 μ-loop m given i₀ i = 16 - i
 
 pub targets-spec : {M : Type 1} → statement M
-targets-spec = tie.close (tie.spec Inv-loop μ-loop (search needs) (search needs) (search needs) (search needs) (search needs) (search needs) (search needs)
+targets-spec = tie.close (tie.spec Inv-loop μ-loop (λ c. search needs) (search needs) (search needs) (search needs) (search needs) (λ c. search needs) (λ c. search needs)
     (λ c. search needs))

@@ -11,5 +11,5 @@ abbrev μ-loop : tie.MeasureT-loop
 μ-loop seats i₀ i = 7 - i
 
 pub votes-spec : {M : Type 1} → statement M
-votes-spec = tie.close (tie.spec Inv-loop μ-loop (search needs) (search needs) (search needs) (search needs) (search needs) (search needs) (search needs)
+votes-spec = tie.close (tie.spec Inv-loop μ-loop (λ c. search needs) (search needs) (search needs) (search needs) (search needs) (λ c. search needs) (λ c. search needs)
     (λ c. search needs))

@@ -11,4 +11,4 @@ abbrev μ-loop : tie.MeasureT-loop
 μ-loop i₀ i = 13 - i
 
 pub starts-spec : {M : Type 1} → statement M
-starts-spec = tie.close (tie.spec Inv-loop μ-loop (search needs) (search needs) (search needs) (search needs) (search needs) (λ c. search needs))
+starts-spec = tie.close (tie.spec Inv-loop μ-loop (λ c. search needs) (search needs) (search needs) (λ c. search needs) (λ c. search needs) (λ c. search needs))

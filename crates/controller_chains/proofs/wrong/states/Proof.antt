@@ -11,4 +11,4 @@ abbrev μ-loop : tie.MeasureT-loop
 μ-loop i₀ i = 72 - i
 
 pub states-spec : {M : Type 1} → statement M
-states-spec = tie.close (tie.spec Inv-loop μ-loop (search needs) (search needs) (search needs) (search needs) (search needs) (λ c. search needs))
+states-spec = tie.close (tie.spec Inv-loop μ-loop (λ c. search needs) (search needs) (search needs) (λ c. search needs) (λ c. search needs) (λ c. search needs))

@@ -1,9 +1,9 @@
 -- `Controller::message` meets its contract. Assumes nothing.
-use mathlib.Core.Path.{sym, ap, _∙_}
+use mathlib.Core.Path.{ap, _∙_}
+use Rattle.filter.specs.Compute.{setPoints}
 use Rattle.message.specs.declared.head.Head.{Head}
 use Rattle.message.proofs.Views.{not-carrying}
-use Rattle.controller.specs.Merge.{selected}
-use Rattle.controller.specs.Sent.{withReadings, sentMessage}
+use Rattle.controller.specs.Sent.{withEstimates, withTargets, sentMessage}
 use Rattle.units.proofs.Picked.{along}
 use borrow.Author.Needs.{needs}
 use Rattle.controller.proofs.state.Controller.message.Statement.{statement}
@@ -14,15 +14,21 @@ unfolding sentMessage
 returns c =
     let a = c .before .before .before .before .args in
     let e = c .before .before .head .given .1 in
-    along (sentMessage (a .numbers) (a .self) (a .head)) e (c .reply .ensures ∙ ap (λ (x : Head). withReadings x (selected (c .before .before .head .given .0 .1 .1 .0) (a .self .readings))) (sym e))
+    along (sentMessage (a .numbers) (a .self)) e (c .reply .ensures)
 
 returns-2 : tie.Need-returns-2
 unfolding sentMessage
-returns-2 c = let a = c .before .before .before .args in along (sentMessage (a .numbers) (a .self) (a .head)) (c .before .enum-told .given .1) (c .update .ensures)
+returns-2 c =
+    let a = c .before .before .before .args in
+    let e = c .before .enum-told .given .1 in
+    along (sentMessage (a .numbers) (a .self)) e (c .update .ensures ∙ ap (λ (x : Head). withEstimates x (a .self .estimates)) e)
 
 returns-3 : tie.Need-returns-3
 unfolding sentMessage
-returns-3 c = let a = c .before .before .before .args in along (sentMessage (a .numbers) (a .self) (a .head)) (c .before .enum-told2 .given .1) (c .setpoints .ensures)
+returns-3 c =
+    let a = c .before .before .before .args in
+    let e = c .before .enum-told2 .given .1 in
+    along (sentMessage (a .numbers) (a .self)) e (c .setpoints .ensures ∙ ap (λ (x : Head). withTargets x (setPoints (a .numbers) (a .self .estimates))) e)
 
 returns-4 : tie.Need-returns-4
 unfolding sentMessage
