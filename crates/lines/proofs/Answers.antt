@@ -1,30 +1,29 @@
 -- WHAT THE ANSWERS ARE, by number and values: the writer's, X's numbers both ways, and the settings' 15. Assumes nothing.
-use Prim.Native.Nat.{ℕ, _+_, _-_, _≤_, _<_}
+use Prim.Native.Nat.{ℕ, _+_, _≤_, _<_}
 use native.Mathlib.Omega.{arith}
 use mathlib.Core.Path.{_≡_, refl, sym, ap, subst, _∙_}
-use mathlib.Core.Bool.{Bool, true, false, _&&_}
-use mathlib.Core.List.{List, [], _∷_, _++_, append-nil}
-use lib.Dec.{eqb, leb, ltb}
-use lib.ListN.{length, getD, drop}
-use borrow.Author.Tests.{eq-eqb, ne-eqb, eqb-true, eqb-false, le-leb, lt-ltb, le-ltb, leb-true}
+use mathlib.Core.Bool.{Bool, true, false}
+use mathlib.Core.List.{List, [], _∷_, append-nil}
+use lib.Dec.{eqb, leb}
+use lib.ListN.{length, getD}
+use borrow.Author.Tests.{eq-eqb, eqb-true, eqb-false, le-leb, lt-ltb, le-ltb, leb-true}
 use Rattle.units.specs.declared.refusal.Refusal.{Refusal}
 use Rattle.units.specs.declared.refusal.Refusal.the-variants.{Long, Unended, Kind as NoKind, Fields, Form as NoForm, Range as NoRange}
 use Rattle.units.specs.declared.settings.Group.{Group}
 use Rattle.units.specs.Limits.{lineTop}
 use Rattle.units.specs.Pick.{pick}
-use Rattle.units.specs.Refusal.{numberOf, valuesOf}
+use Rattle.units.specs.Refusal.{numberOf}
 use Rattle.units.specs.Settings.{groupFits}
 use Rattle.units.specs.Within.{within}
 use Rattle.units.proofs.Every.{and-left, and-right}
 use Rattle.message.specs.declared.head.Head.the-variants.{Refused as X}
 use Rattle.message.specs.declared.settings.Settings.{Settings}
 use Rattle.message.specs.declared.value.Message.{Message}
-use Rattle.message.specs.Head.{headFits, carried, isPlain}
+use Rattle.message.specs.Head.{headFits, isPlain}
 use Rattle.message.specs.Message.{plain, messageFits}
 use Rattle.message.proofs.Plain.{carries-none, plain-fit}
 use Rattle.fields.specs.declared.field.Field.{Field}
 use Rattle.fields.specs.declared.field.Field.the-variants.{Value, Form, Range}
-use Rattle.fields.specs.Certificate.{isCertificate}
 use Rattle.fields.specs.declared.spelling.Spelling.the-variants.{Decimal}
 use Rattle.fields.specs.Put.{written}
 use Rattle.fields.specs.Text.{lineFeed, until, firstField, laterFields, tabbed}
@@ -40,10 +39,10 @@ use Rattle.lines.specs.declared.write.Written.the-variants.{Refused as N
 use Rattle.lines.specs.Answers.{WriterSays, xLine, Taking, begun, more, runsRead, Waiting, Fifteen, SettlingSays, goes-on, is-whole, refuses, SettingsRefused}
 use Rattle.lines.specs.Lists.{column}
 use Rattle.lines.specs.Reading.{Got, values, stop, refusedLine, readText, readLine, readValues, readBy, endedOnce}
-use Rattle.lines.specs.Settling.{settlingStart, stopped, kept, standingAt, keptValues, afterField, turnOf, anyGroup, settlePlain, settleWeight, settleFactor, settleCertificate, settleRun, expecting, settleText, settleLine, settleOn, settleAll, missing, isKind, withSizes, withFilter, runWith, certificateOf}
+use Rattle.lines.specs.Settling.{settlingStart, stopped, kept, standingAt, keptValues, afterField, turnOf, anyGroup, settlePlain, settleWeight, settleFactor, settleCertificate, settleRun, expecting, settleText, settleLine, settleOn, settleAll, missing, runWith, certificateOf}
 use Rattle.lines.specs.Table.{kindOf, letterOf, quantityAt, limitOf, runsOf}
-use Rattle.lines.specs.Values.{kindIs, headValues, numbersOf}
-use Rattle.lines.specs.Writing.{lineOf, spellLine, refusalLine, answerOf, bufferOf, writeAnswer, writeBuffer, plainFits, writtenNumber, writtenValues}
+use Rattle.lines.specs.Values.{kindIs, headValues}
+use Rattle.lines.specs.Writing.{lineOf, spellLine, refusalLine, answerOf, bufferOf, writeAnswer, writeBuffer, plainFits}
 use Rattle.lines.proofs.Plain.{plain-values}
 use Rattle.lines.proofs.Meaning.{meaning}
 use Rattle.lines.proofs.Refusing.{GotEarly, Early, values-early}

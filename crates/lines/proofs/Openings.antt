@@ -8,7 +8,7 @@ use lib.ListN.{length, getD, take, drop, replicate, getD-replicate, List·getD-e
 use lib.Seq.{getD-take}
 use borrow.Author.Tests.{eq-eqb, ne-eqb, le-leb, lt-leb, not-true, not-false}
 use Rattle.units.specs.declared.refusal.Refusal.{Refusal}
-use Rattle.units.specs.declared.refusal.Refusal.the-variants.{Long, Unended, Kind as NoKind, Range as NoRange}
+use Rattle.units.specs.declared.refusal.Refusal.the-variants.{Long, Unended, Range as NoRange}
 use Rattle.units.specs.declared.refusal.Verdict.{Verdict}
 use Rattle.units.specs.declared.refusal.Verdict.the-variants.{Taken, Refused}
 use Rattle.units.specs.declared.settings.Group.{Group}
@@ -26,9 +26,10 @@ use Rattle.lines.specs.declared.kind.Found.the-variants.{Known, Unknown}
 use Rattle.lines.specs.declared.read.Line.{Line}
 use Rattle.lines.specs.Table.{kindOf}
 use Rattle.lines.specs.Values.{messageOf}
-use Rattle.lines.specs.Reading.{values, stop, kindIn, lineWith, readValues, readText, readLine, refusedLine}
+use Rattle.lines.specs.Reading.{values, stop, kindIn, lineWith, readValues, readKnown, readText, readLine, refusedLine}
 use Rattle.lines.specs.Walk.{Rest, Filled}
 use Rattle.lines.proofs.Making.{message-same}
+use Rattle.lines.proofs.Wire.{kind-only}
 
 -- THE FIRST FIELD
 pub one-byte : (text : List ℕ) → ends (drop 0 text) ≡ false → ends (drop 1 text) ≡ true → firstField text ≡ getD text 0 0 ∷ []
@@ -64,9 +65,7 @@ open-within (c ∷ cs) a ae t = omega arith
 
 -- a known kind is one letter
 pub known-short : (f : List ℕ) (r : Found) (k : Kind) → r ≡ kindIn f → r ≡ Known k → length f ≡ 1
-known-short [] r k e q = absurd-by (cc)
-known-short (c ∷ []) r k e q = refl
-known-short (c ∷ d ∷ f) r k e q = absurd-by (cc)
+known-short f r k e q = ap length (kind-only f k (sym e ∙ q))
 
 -- NUMBERS NOT READ YET
 pub none-read : Rest (replicate 34 0) 0
@@ -81,27 +80,20 @@ rest-same w n r i =
     (λ l. r i l ∙ sym (List·getD-eq-default (take n w) 0 {n = i} (let e = length-take n w in omega arith)))
 
 -- `read_known`
-module _ (k : Kind) (s : Group) (text w : List ℕ) (a : Verdict) (f : Filled k s text w (readValues k s (laterFields text)) a) where
-  pub known-taken : (m : Message) → a ≡ Taken → m ≡ messageOf s k w → _≡_ {A = Line} (record { verdict = Taken; message = m }) (lineWith s k (readValues k s (laterFields text)))
-  known-taken m e h =
+module _ {k : Kind} {s : Group} {text w : List ℕ} {a : Verdict} (f : Filled k s text w (readValues k s (laterFields text)) a) where
+  pub known-taken : {m : Message} → a ≡ Taken → m ≡ messageOf s k w → _≡_ {A = Line} (record { verdict = Taken; message = m }) (lineWith s k (readValues k s (laterFields text)))
+  known-taken e h =
       let n = length (laterFields text) in
       let g : readValues k s (laterFields text) ≡ values (take n w) = sym (f .got) ∙ rw e in
       rw (g, h, message-same s k w (take n w) (rest-same w n (f .rest e)))
 
-  pub known-refused : (r : Line) (why : Refusal) → a ≡ Refused why → r ≡ refusedLine why → r ≡ lineWith s k (readValues k s (laterFields text))
-  known-refused r why e h =
-      let g : readValues k s (laterFields text) ≡ stop why = sym (f .got) ∙ rw e in
-      rw g h
+  pub known-refused : {r : Line} {why : Refusal} → a ≡ Refused why → r ≡ refusedLine why → r ≡ lineWith s k (readValues k s (laterFields text))
+  known-refused {why = why} e h = let g : readValues k s (laterFields text) ≡ stop why = sym (f .got) ∙ rw e in rw g h
 
 -- `read_text`
-module _ (s : Group) (text : List ℕ) (found : Found) (r : Line) (fe : found ≡ kindIn (firstField text)) where
-  pub text-known : (k : Kind) → found ≡ Known k → r ≡ lineWith s k (readValues k s (laterFields text)) → r ≡ readText s text
-  unfolding readText
-  text-known k e h = rw (← fe, e) h
-
-  pub text-unknown : found ≡ Unknown → r ≡ refusedLine NoKind → r ≡ readText s text
-  unfolding readText
-  text-unknown e h = rw (← fe, e) h
+pub text-found : (s : Group) (text : List ℕ) {found : Found} {r : Line} → found ≡ kindIn (firstField text) → (f : Found) → found ≡ f → r ≡ readKnown s (laterFields text) f → r ≡ readText s text
+unfolding readText
+text-found s text fe f e h = rw (← fe, e) h
 
 -- `read`
 pub text-tabs : (line : List ℕ) (c : Scan) → c ≡ scanned line → c .tabs ≡ tabsIn (take (c .feed) line)
@@ -132,4 +124,4 @@ module _ (s : Group) (line : List ℕ) (b : Bool) (r : Line) (be : b ≡ groupFi
 
       pub line-text : c .feed + 1 ≡ length line → r ≡ readText s (take (c .feed) line) → r ≡ readLine s line
       unfolding readLine pick
-      line-text d h = rw (← be, not-false b t, le-leb (length line) 600 l, eq-eqb (length (until 10 line) + 1) (length line) (ap (λ (n : ℕ). n + 1) (sym feed-is) ∙ d)) (h ∙ ap (readText s) (ap (λ (n : ℕ). take n line) feed-is ∙ until-take 10 line))
+      line-text d h = rw (← be, not-false b t, le-leb (length line) 600 l, ← feed-is, eq-eqb (c .feed + 1) (length line) d, ← until-take 10 line, ← feed-is) h

@@ -4,7 +4,7 @@ use mathlib.Core.Path.{_≡_, refl, sym, ap, _∙_}
 use mathlib.Core.List.{List, [], _∷_, _++_}
 use mathlib.Core.Bool.{true}
 use native.Mathlib.Omega.{arith}
-use lib.ListN.{length, drop, length-append}
+use lib.ListN.{length, getD, drop}
 use borrow.Author.Tests.{le-ltb}
 use Rattle.units.specs.declared.refusal.Refusal.{Refusal}
 use Rattle.units.specs.declared.refusal.Verdict.the-variants.{Taken}
@@ -22,13 +22,13 @@ use Rattle.lines.specs.declared.read.Line.{Line}
 use Rattle.lines.specs.declared.write.Written.the-variants.{Done}
 use Rattle.lines.specs.Lists.{joined}
 use Rattle.lines.specs.Reading.{readLine}
-use Rattle.lines.specs.Values.{messageOf, kindIs, headValues, numbersOf, rawOf, floatsOf, targetOf}
+use Rattle.lines.specs.Values.{messageOf, kindIs, headValues, numbersOf}
 use Rattle.lines.specs.Writing.{lineOf, spellLine, refusalLine, writeAnswer, writeBuffer}
-use Rattle.lines.proofs.Adding.{no-raws, roomy}
-use Rattle.lines.proofs.Arrays.{floats-length, targets-count}
+use Rattle.lines.proofs.Adding.{no-raws}
 use Rattle.lines.proofs.Meaning.{Meant, meaning}
+use Rattle.lines.proofs.Rows.{count-range}
 use Rattle.lines.proofs.Saying.{notX, saying, readable}
-use Rattle.lines.proofs.Sending.{message-fits, group-runs}
+use Rattle.lines.proofs.Sending.{message-fits}
 use Rattle.lines.proofs.Wire.{taken, textOf, line-accepted, line-back, line-ends, line-short}
 
 -- READING WHAT WAS WRITTEN gives the message back, for every message in range but X, which is only written
@@ -36,7 +36,7 @@ pub read-write : (s : Group) (a : Message) → messageFits s a ≡ true → notX
 unfolding spellLine
 read-write s a f x =
     let F = message-fits s a f in
-    let w = saying s a (a .head) refl x F in
+    let w = saying s a (a .head) refl F in
     line-back (kindIs (a .head)) s (numbersOf s a) (F .group) (readable (a .head) x) (w .fit) ∙ ap taken (w .back)
 
 -- WHATEVER IS ACCEPTED is spelled exactly as the writer writes it, and is in range
@@ -61,19 +61,7 @@ read-fits s line e = line-only s line (readLine s line .message) (whole (readLin
 
 -- HOW LONG A LINE IS
 values-few : (s : Group) (a : Message) → messageFits s a ≡ true → length (numbersOf s a) ≤ 34
-unfolding numbersOf
-values-few s a f =
-    let R = joined (rawOf (carried s (a .head) .readings) (a .readings)) 16 in
-    let E = joined (floatsOf (a .estimates)) (carried s (a .head) .estimates) in
-    let T = joined (targetOf (a .targets)) (carried s (a .head) .targets) in
-    let r = roomy s (a .head) (a .readings) (group-runs s (message-fits s a f .group) .1) .all in
-    let p = length-append (headValues (a .head)) (R ++ (E ++ T)) in
-    let q = length-append R (E ++ T) in
-    let t = length-append E T in
-    let u = length-append (headValues (a .head)) R in
-    let x = floats-length (a .estimates) (carried s (a .head) .estimates) in
-    let y = targets-count (a .targets) (carried s (a .head) .targets) in
-    omega arith
+values-few s a f = let c = saying s a (a .head) refl (message-fits s a f) .fit .counted in let b = count-range (kindIs (a .head)) s (getD (numbersOf s a) 2 0) in omega arith
 
 pub write-room : (s : Group) (a : Message) → messageFits s a ≡ true → length (spellLine s a) ≤ lineTop
 unfolding spellLine

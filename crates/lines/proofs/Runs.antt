@@ -5,19 +5,20 @@ use mathlib.Core.List.{List, [], _∷_, _++_, append-nil}
 use mathlib.Core.Bool.{Bool, true, false, not, _&&_}
 use native.Mathlib.Omega.{arith}
 use native.Mathlib.Numerals.{add-one}
-use lib.Dec.{eqb, leb}
-use lib.ListN.{length, getD, drop, set, length-append, length-set}
+use lib.Dec.{leb}
+use lib.ListN.{length, getD, set, length-append, length-set}
 use lib.Seq.{sets, sets-eq}
-use borrow.Author.Tests.{eq-eqb, ne-eqb, eqb-true, leb-true, lt-ltb, le-ltb, not-true, not-false}
+use borrow.Author.Tests.{eq-eqb, ne-eqb, lt-ltb, le-ltb, not-true, not-false}
 use Rattle.units.specs.declared.refusal.Refusal.the-variants.{Range, Room}
 use Rattle.units.specs.Every.{every}
 use Rattle.units.specs.Pick.{pick}
-use Rattle.units.specs.Settings.{groupFits, runsFit, numbersFit}
+use Rattle.units.specs.Settings.{groupFits, numbersFit}
+use Rattle.units.proofs.Every.{and-left, and-right, and-three}
 use Rattle.units.specs.Within.{within}
-use Rattle.units.proofs.Every.{and-left, and-right, every-at}
-use Rattle.units.proofs.InRange.{group-fits}
+use Rattle.units.proofs.InRange.{group-fits, within-range}
 use Rattle.message.specs.declared.settings.Settings.{Settings}
-use Rattle.message.specs.Settings.{byteAt, certificateFits, noCertificate, certificateAt, sixteen, settingsFit}
+use Rattle.message.specs.Settings.{noCertificate, certificateAt, sixteen, settingsFit}
+use Rattle.message.proofs.InRange.{settings-exact}
 use Rattle.fields.specs.declared.spelling.Spelling.the-variants.{Decimal, Factor}
 use Rattle.fields.specs.Put.{put, putEnd, written}
 use Rattle.fields.specs.Text.{tabbed}
@@ -29,7 +30,7 @@ use Rattle.lines.specs.declared.write.Written.the-variants.{Done, Refuse
 use Rattle.lines.specs.Settings.{bytesOf, runNumber, who, share, runLine, settingLine, settingFits}
 use Rattle.lines.specs.Table.{quantityAt}
 use Rattle.lines.specs.Writing.{lineOf, answerOf, bufferOf, writeAnswer, writeBuffer}
-use Rattle.lines.proofs.Sending.{group-runs}
+use Rattle.lines.proofs.Sending.{group-runs, write-range, write-put}
 
 -- A FIELD AFTER ITS TAB
 module _ (l : List ℕ) (at : ℕ) (s : List ℕ) (h : at + (1 + length s) ≤ length l) where
@@ -70,12 +71,7 @@ run-is run cs factor weight = rw (← tabbed-append (runNumber 0 run ∷ cs ∷ 
 module _ (run : ℕ) (cs : List ℕ) (factor weight len w n : ℕ) (b : List ℕ) (ce : length cs ≡ n) (le : len ≡ 2 + w)
     (we : w ≡ (1 + length (written Decimal run)) + (1 + n) + ((1 + length (written Factor factor)) + (1 + length (written Decimal weight)))) where
   len-is : len ≡ length (runLine run cs factor weight)
-  len-is =
-      rw (run-is run cs factor weight)
-      (let a = length-append (who run cs ++ share factor weight) (10 ∷ []) in
-      let c = length-append (who run cs) (share factor weight) in
-      let d = who-long run cs in
-      let f = share-long factor weight in omega arith)
+  len-is = rw (run-is run cs factor weight) (simp (length-append, who-long, share-long) (omega arith))
 
   pub run-room : length b < len → (Refused Room ≡ answerOf (runLine run cs factor weight) b) × (b ≡ bufferOf (runLine run cs factor weight) b)
   unfolding pick
@@ -101,11 +97,10 @@ module _ (run : ℕ) (cs : List ℕ) (factor weight len w n : ℕ) (b : List ℕ
         run-put ke =
             let X = who run cs ++ share factor weight in
             let t = both-put (set b 0 c) d f (who run cs) (share factor weight) 1 at end de fe in
-            let k : 0 + length (75 ∷ X ++ (10 ∷ [])) ≤ length b = let a = ap {B = ℕ} length (run-is run cs factor weight) in let g = fits-in in omega arith in
-            let z : 0 + length (75 ∷ X ++ (10 ∷ [])) ≡ length (75 ∷ X ++ (10 ∷ [])) = omega arith in
+            let z : 0 + length (75 ∷ X ++ (10 ∷ [])) ≡ len = let a = ap {B = ℕ} length (run-is run cs factor weight) in let g = len-is in omega arith in
             let p : set f end 10 ≡ sets b 0 (75 ∷ X ++ (10 ∷ [])) = rw (t .1, t .0, ke) (sets-append X (10 ∷ []) (set b 0 75) 1) in
-            rw (le-ltb (length b) (length (runLine run cs factor weight)) fits-in)
-            (ap Done len-is, p ∙ sets-eq (75 ∷ X ++ (10 ∷ [])) b 0 k ∙ ap (λ (m : ℕ). (75 ∷ X ++ (10 ∷ [])) ++ drop m b) z ∙ sym (ap {B = List ℕ} (λ (l : List ℕ). l ++ drop (length l) b) (run-is run cs factor weight)))
+            rw (le-ltb (length b) (length (runLine run cs factor weight)) fits-in, ← len-is, run-is run cs factor weight)
+            (refl, p ∙ (rw z at (sets-eq (75 ∷ X ++ (10 ∷ [])) b 0 (omega arith))))
 
 -- SETTINGS IN RANGE
 pub record Settle (s : Settings) : Type 0 where
@@ -115,13 +110,7 @@ pub record Settle (s : Settings) : Type 0 where
 
 pub settings-fit : (s : Settings) → settingsFit s ≡ true → Settle s
 unfolding settingsFit
-settings-fit s e =
-    let l = and-left (numbersFit (s .numbers) && sixteen s) (every (certificateAt s) 16) e in
-    record {
-      numbers = and-left (numbersFit (s .numbers)) (sixteen s) l;
-      lists = and-right (numbersFit (s .numbers)) (sixteen s) l;
-      certificates = and-right (numbersFit (s .numbers) && sixteen s) (every (certificateAt s) 16) e;
-    }
+settings-fit s e = let h = and-three (numbersFit (s .numbers)) (sixteen s) (every (certificateAt s) 16) e in record { numbers = h .0; lists = h .1; certificates = h .2 }
 
 pub settings-group : (s : Settings) → settingsFit s ≡ true → groupFits (s .numbers .group) ≡ true
 settings-group s e = group-fits (s .numbers) (settings-fit s e .numbers)
@@ -144,8 +133,8 @@ module _ (s : Settings) (k : ℕ) (f : settingFits s k ≡ true) where
   unpacked : (settingsFit s ≡ true) × (1 ≤ k) × (k ≤ 2 + s .numbers .group .m)
   unfolding settingFits
   unpacked =
-      let w = and-right (settingsFit s) (leb 1 k && leb k (2 + s .numbers .group .m)) f in
-      (and-left (settingsFit s) (leb 1 k && leb k (2 + s .numbers .group .m)) f, leb-true 1 k (and-left (leb 1 k) (leb k (2 + s .numbers .group .m)) w), leb-true k (2 + s .numbers .group .m) (and-right (leb 1 k) (leb k (2 + s .numbers .group .m)) w))
+      let w = within 1 (2 + s .numbers .group .m) k in
+      let r = within-range 1 (2 + s .numbers .group .m) k (and-right (settingsFit s) w f) in (and-left (settingsFit s) w f, r .0, r .1)
 
   module _ (r : Written) (d b vs : List ℕ) where
     pub sizes-put : k ≡ 1 → vs ≡ s .numbers .group .g ∷ s .numbers .group .m ∷ [] → (r ≡ answerOf (lineOf Sizes vs) b) × (d ≡ bufferOf (lineOf Sizes vs) b) → (r ≡ answerOf (settingLine s k) b) × (d ≡ bufferOf (settingLine s k) b)
@@ -163,16 +152,8 @@ module _ (s : Settings) (k : ℕ) (f : settingFits s k ≡ true) where
     pub run-few : run < 16
     run-few = let u = unpacked in let g = group-runs (s .numbers .group) (settings-group s (u .0)) in let r = run-below in omega arith
 
-    here : certificateFits true (getD (s .certificates) run noCertificate) ≡ true
-    here = rw (lt-ltb run (s .numbers .group .m) run-below) at (every-at (certificateAt s) 16 run (settings-fit s (unpacked .0) .certificates) run-few)
-
     pub certificate-long : (getD (s .certificates) run noCertificate .len ≤ 16) × (length (getD (s .certificates) run noCertificate .bytes) ≡ 16)
-    unfolding certificateFits
-    certificate-long =
-        let c = getD (s .certificates) run noCertificate in
-        let L = leb 1 (c .len) && leb (c .len) 16 in
-        let p = and-left (L && eqb (length (c .bytes)) 16) (every (byteAt c) 16) here in
-        (leb-true (c .len) 16 (and-right (leb 1 (c .len)) (leb (c .len) 16) (and-left L (eqb (length (c .bytes)) 16) p)), eqb-true (length (c .bytes)) 16 (and-right L (eqb (length (c .bytes)) 16) p))
+    certificate-long = let c = settings-exact s .0 (unpacked .0) .certificate run run-below in (c .size .1, c .sixteen)
 
     pub run-written : (r : Written) (d b : List ℕ)
         → (r ≡ answerOf (runLine run (bytesOf (getD (s .certificates) run noCertificate)) (getD (s .numbers .factors) run 0) (getD (s .numbers .weights) run 0)) b)
@@ -184,10 +165,8 @@ module _ (s : Settings) (k : ℕ) (f : settingFits s k ≡ true) where
 -- `write_setting`
 module _ (s : Settings) (k : ℕ) (b : Bool) (be : b ≡ settingFits s k) (buf : List ℕ) where
   pub setting-range : not b ≡ true → (Refused Range ≡ writeAnswer (settingFits s k) (settingLine s k) buf) × (buf ≡ writeBuffer (settingFits s k) (settingLine s k) buf)
-  unfolding writeAnswer writeBuffer pick
-  setting-range t = rw (← be, not-true b t) (refl, refl)
+  setting-range t = write-range (settingFits s k) b be (settingLine s k) buf (not-true b t)
 
   pub setting-put : not b ≡ false → (r : Written) (d : List ℕ) → (r ≡ answerOf (settingLine s k) buf) × (d ≡ bufferOf (settingLine s k) buf)
       → (r ≡ writeAnswer (settingFits s k) (settingLine s k) buf) × (d ≡ writeBuffer (settingFits s k) (settingLine s k) buf)
-  unfolding writeAnswer writeBuffer pick
-  setting-put t r d h = rw (← be, not-false b t) h
+  setting-put t r d h = write-put (settingFits s k) b be (settingLine s k) buf (not-false b t) (settingLine s k) r d refl h

@@ -1,19 +1,17 @@
 -- What `numbers_of`, `write`, `write_plain` and `write_refusal` need. Assumes nothing.
 use Prim.Native.Nat.{ℕ, _+_, _*_, _≤_}
-use mathlib.Core.Path.{_≡_, refl, sym, ap, _∙_}
+use mathlib.Core.Path.{_≡_, refl, sym, _∙_}
 use mathlib.Core.List.{List, [], _∷_, _++_, append-assoc}
 use mathlib.Core.Bool.{Bool, true, false, _&&_}
 use native.Mathlib.Omega.{arith}
-use lib.Dec.{leb}
 use lib.ListN.{length, take}
-use borrow.Author.Tests.{leb-true}
 use Rattle.units.specs.declared.refusal.Refusal.{Refusal}
 use Rattle.units.specs.declared.refusal.Refusal.the-variants.{Range}
 use Rattle.units.specs.declared.settings.Group.{Group}
 use Rattle.units.specs.Pick.{pick}
 use Rattle.units.specs.Refusal.{numberOf}
 use Rattle.units.specs.Settings.{groupFits}
-use Rattle.units.proofs.Every.{and-left, and-right}
+use Rattle.units.proofs.Every.{and-three}
 use Rattle.units.proofs.InRange.{group-range}
 use Rattle.floats.specs.Ranges.{stateFits, targetsFit}
 use Rattle.message.specs.declared.head.Carried.{Carried}
@@ -55,27 +53,14 @@ message-fits s a e =
     let R = readingsFit (c .readings) (a .readings) in
     let E = stateFits (c .estimates) (a .estimates) in
     let T = targetsFit (c .targets) (a .targets) in
-    let e₃ = and-left (G && H && R && E) T e in
-    let e₂ = and-left (G && H && R) E e₃ in
-    let e₁ = and-left (G && H) R e₂ in
-    record {
-      group = and-left G H e₁;
-      head = and-right G H e₁;
-      readings = and-right (G && H) R e₂;
-      estimates = and-right (G && H && R) E e₃;
-      targets = and-right (G && H && R && E) T e;
-    }
+    let p = and-three (G && H && R) E T e in
+    let q = and-three G H R (p .0) in
+    record { group = q .0; head = q .1; readings = q .2; estimates = p .1; targets = p .2 }
 
 -- `numbers_of`
 module _ (s : Group) (a : Message) (fit : messageFits s a ≡ true) (c : Carried) (ce : c ≡ carried s (a .head)) where
   room : Roomy s (a .head) (a .readings)
   room = roomy s (a .head) (a .readings) (group-runs s (message-fits s a fit .group) .1)
-
-  estimates-few : c .estimates ≤ 16
-  estimates-few = rw ce (room .runs)
-
-  targets-few : c .targets ≤ 16
-  targets-few = rw ce (room .shares)
 
   all-few : length (headValues (a .head) ++ joined (rawOf (c .readings) (a .readings)) 16) + 2 * c .estimates + c .targets ≤ 34
   all-few = rw ce (room .all)
@@ -89,23 +74,16 @@ module _ (s : Group) (a : Message) (fit : messageFits s a ≡ true) (c : Carried
       raws-count = re .0 ∙ rw (he .1)
 
       pub raws-few : (r .n + 2 * c .estimates ≤ 34) × (c .estimates ≤ 16) × (length (r .v) ≡ 34)
-      raws-few = (let l = all-few in let e = raws-count in omega arith, estimates-few, re .2)
+      raws-few = (let l = all-few in let e = raws-count in omega arith, rw ce (room .runs), re .2)
 
       module _ (x : LineNumbers) (xe : (x .n ≡ r .n + 2 * c .estimates) × (take (x .n) (x .v) ≡ take (r .n) (r .v) ++ joined (floatsOf (a .estimates)) (c .estimates)) × (length (x .v) ≡ 34)) where
         pub floats-few : (x .n + c .targets ≤ 34) × (c .targets ≤ 16) × (length (x .v) ≡ 34)
-        floats-few = (let l = all-few in let e = raws-count in let f = xe .0 in omega arith, targets-few, xe .2)
+        floats-few = (let l = all-few in let e = raws-count in let f = xe .0 in omega arith, rw ce (room .shares), xe .2)
 
         pub all-numbers : (y : LineNumbers) → (y .n ≡ x .n + c .targets) × (take (y .n) (y .v) ≡ take (x .n) (x .v) ++ joined (targetOf (a .targets)) (c .targets)) × (length (y .v) ≡ 34)
             → (take (y .n) (y .v) ≡ numbersOf s a) × (y .n ≤ 34) × (length (y .v) ≡ 34)
         unfolding numbersOf
-        all-numbers y ye =
-            let R = joined (rawOf (c .readings) (a .readings)) 16 in
-            let E = joined (floatsOf (a .estimates)) (c .estimates) in
-            let T = joined (targetOf (a .targets)) (c .targets) in
-            let t : take (y .n) (y .v) ≡ headValues (a .head) ++ (R ++ (E ++ T)) =
-            ye .1 ∙ ap (λ (l : List ℕ). l ++ T) (xe .1 ∙ ap (λ (l : List ℕ). l ++ E) (re .1 ∙ ap (λ (l : List ℕ). l ++ R) (he .1)))
-            ∙ append-assoc (headValues (a .head) ++ R) E T ∙ append-assoc (headValues (a .head)) R (E ++ T) in
-            (rw ce at t, let l = all-few in let e = raws-count in let f = xe .0 in let g = ye .0 in omega arith, ye .2)
+        all-numbers y ye = (rw (← ce, ye .1, xe .1, re .1, he .1) (simp append-assoc), let l = all-few in let e = raws-count in let f = xe .0 in let g = ye .0 in omega arith, ye .2)
 
 -- `write` and `write_plain`: what may be written is, by a test
 module _ (fit b : Bool) (be : b ≡ fit) (text buf : List ℕ) where

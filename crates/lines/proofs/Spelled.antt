@@ -1,8 +1,8 @@
 -- THE LAWS OF A LINE'S NUMBERS, for all kinds at once: what is accepted is spelled in the one way, and what is spelled so is read back. Assumes nothing.
 use Prim.Native.Nat.{ℕ, zero, suc, _≤_, _<_}
-use mathlib.Core.Path.{_≡_, refl, sym, ap, _∙_}
+use mathlib.Core.Path.{_≡_, refl, sym, ap, ap₂, _∙_}
 use mathlib.Core.List.{List, [], _∷_, _++_, append-assoc, append-nil}
-use mathlib.Core.Bool.{Bool, true, false, _&&_}
+use mathlib.Core.Bool.{Bool, true, false, _&&_, and-assoc}
 use native.Mathlib.Omega.{arith}
 use lib.Dec.{eqb}
 use lib.ListN.{length, getD, take, drop, take-append-drop, List·getD-append}
@@ -18,7 +18,6 @@ use Rattle.fields.proofs.Cases.{by-test, by-lt, absurd-by}
 use Rattle.fields.proofs.Puts.{written-is}
 use Rattle.fields.proofs.Spellings.{field-only, field-read, fits-range}
 use Rattle.lines.specs.declared.kind.Kind.{Kind}
-use Rattle.lines.specs.declared.kind.Kind.the-variants.{Reading, Query, Reply, Advert, Update, Vote, Setpoints, Due, CollectingEnds, VotingEnds, Floor, Start, Refused, Sizes, Filter, Run}
 use Rattle.lines.specs.declared.table.Limit.{Limit}
 use Rattle.lines.specs.declared.table.Quantity.{Quantity}
 use Rattle.lines.specs.declared.table.Quantity.the-variants.{Sender, RunNumber, Round, State, Base, Mask, Raw, X, Variance, Target, Number, Controllers, Runs, Noise, First, Turn, Factor, Weight}
@@ -26,7 +25,8 @@ use Rattle.lines.specs.Reading.{Got, values, stop, limitAfter, readBy, o
 use Rattle.lines.specs.Table.{letterOf, quantityAt, spellingOf, limitFor, limitOf, countOf}
 use Rattle.lines.specs.Writing.{spelledAt, textsTo}
 use Rattle.lines.proofs.Columns.{is-column}
-use Rattle.lines.proofs.Stages.{heads-count, count-any, reply-heads, enough-heads}
+use Rattle.lines.proofs.Rows.{row-of, count-any, count-range, count-same}
+use Rattle.lines.proofs.Stages.{enough-heads}
 
 abbrev pub fitsBy : Limit → ℕ → Bool
 fitsBy l n = fits (l .spelling) (l .low) (l .high) n
@@ -46,24 +46,21 @@ pub record Read (S : List ℕ → Limit) (us vs : List ℕ) (fs : List (List ℕ
   pub spelt : fs ≡ spelledAll S us rest
   pub fit : fitAll S us rest ≡ true
 
+-- a field that a reading went on from
+went-on : (g : Field) (go : ℕ → Got) (vs : List ℕ) → onward g go ≡ values vs → (n : ℕ) × (next : ℕ) × (g ≡ Value n next) × (go n ≡ values vs)
+went-on (Value n next) go vs e = (n, next, refl, e)
+went-on Form go vs e = absurd-by (cc)
+went-on Range go vs e = absurd-by (cc)
+
 pub read-only : (S : List ℕ → Limit) (us : List ℕ) (fs : List (List ℕ)) (vs : List ℕ) → readAll S us fs ≡ values vs → Read S us vs fs
 unfolding readAll spelledAll fitAll
 read-only S us [] vs e = record { rest = []; joined = (let q : us ≡ vs = cc in sym q) ∙ sym (append-nil us); spelt = refl; fit = refl }
-read-only S us (f ∷ fs) vs e = go (readBy (S us) f) refl e (λ n d. read-only S (us ++ (n ∷ [])) fs vs d)
-  where
-    go : (g : Field) → readBy (S us) f ≡ g → onward g (λ n. readAll S (us ++ (n ∷ [])) fs) ≡ values vs
-        → ((n : ℕ) → readAll S (us ++ (n ∷ [])) fs ≡ values vs → Read S (us ++ (n ∷ [])) vs fs) → Read S us vs (f ∷ fs)
-    go (Value n next) p d ih =
-        let r = ih n d in
-        let o = field-only (S us .spelling) (S us .low) (S us .high) 0 f n next p in
-        record {
-          rest = n ∷ r .rest;
-          joined = r .joined ∙ append-assoc us (n ∷ []) (r .rest);
-          spelt = rw (o .spelt, r .spelt);
-          fit = rw (o .inside) (r .fit);
-        }
-    go Form p d ih = absurd-by (cc)
-    go Range p d ih = absurd-by (cc)
+read-only S us (f ∷ fs) vs e =
+    let w = went-on (readBy (S us) f) (λ n. readAll S (us ++ (n ∷ [])) fs) vs e in
+    let n = w .0 in
+    let r = read-only S (us ++ (n ∷ [])) fs vs (w .3) in
+    let o = field-only (S us .spelling) (S us .low) (S us .high) 0 f n (w .1) (w .2) in
+    record { rest = n ∷ r .rest; joined = r .joined ∙ append-assoc us (n ∷ []) (r .rest); spelt = ap₂ _∷_ (o .spelt) (r .spelt); fit = rw (o .inside) (r .fit) }
 
 read-back : (S : List ℕ → Limit) (us ws : List ℕ) → fitAll S us ws ≡ true → readAll S us (spelledAll S us ws) ≡ values (us ++ ws)
 unfolding readAll spelledAll fitAll
@@ -77,14 +74,9 @@ read-back S us (n ∷ ws) e =
 pub read-join : (S : List ℕ → Limit) (us xs : List ℕ) (fs gs : List (List ℕ)) → readAll S us fs ≡ values xs → readAll S us (fs ++ gs) ≡ readAll S xs gs
 unfolding readAll
 read-join S us xs [] gs e = ap (λ (l : List ℕ). readAll S l gs) (cc)
-read-join S us xs (f ∷ fs) gs e = go (readBy (S us) f) refl e (λ n d. read-join S (us ++ (n ∷ [])) xs fs gs d)
-  where
-    go : (g : Field) → readBy (S us) f ≡ g → onward g (λ n. readAll S (us ++ (n ∷ [])) fs) ≡ values xs
-        → ((n : ℕ) → readAll S (us ++ (n ∷ [])) fs ≡ values xs → readAll S (us ++ (n ∷ [])) (fs ++ gs) ≡ readAll S xs gs)
-        → onward g (λ n. readAll S (us ++ (n ∷ [])) (fs ++ gs)) ≡ readAll S xs gs
-    go (Value n next) p d ih = ih n d
-    go Form p d ih = absurd-by (cc)
-    go Range p d ih = absurd-by (cc)
+read-join S us xs (f ∷ fs) gs e =
+    let w = went-on (readBy (S us) f) (λ n. readAll S (us ++ (n ∷ [])) fs) xs e in
+    rw (w .2) (read-join S (us ++ (w .0 ∷ [])) xs fs gs (w .3))
 
 spelled-length : (S : List ℕ → Limit) (us ws : List ℕ) → length (spelledAll S us ws) ≡ length ws
 unfolding spelledAll
@@ -96,14 +88,10 @@ unfolding spelledAll
 spelled-append S us [] ys = rw (append-nil us)
 spelled-append S us (n ∷ xs) ys = ap (λ (l : List (List ℕ)). spelled (S us .spelling) n ∷ l) (spelled-append S (us ++ (n ∷ [])) xs ys ∙ rw (append-assoc us (n ∷ []) xs))
 
-fit-append : (S : List ℕ → Limit) (us xs ys : List ℕ) → fitAll S us (xs ++ ys) ≡ true → (fitAll S us xs ≡ true) × (fitAll S (us ++ xs) ys ≡ true)
+pub fit-append : (S : List ℕ → Limit) (us xs ys : List ℕ) → fitAll S us (xs ++ ys) ≡ (fitAll S us xs && fitAll S (us ++ xs) ys)
 unfolding fitAll
-fit-append S us [] ys e = (refl, rw (append-nil us) e)
-fit-append S us (n ∷ xs) ys e =
-    let a = and-left (fitsBy (S us) n) (fitAll S (us ++ (n ∷ [])) (xs ++ ys)) e in
-    let b = and-right (fitsBy (S us) n) (fitAll S (us ++ (n ∷ [])) (xs ++ ys)) e in
-    let r = fit-append S (us ++ (n ∷ [])) xs ys b in
-    (rw a (r .0), rw (append-assoc us (n ∷ []) xs) at (r .1))
+fit-append S us [] ys = rw (append-nil us)
+fit-append S us (n ∷ xs) ys = rw (fit-append S (us ++ (n ∷ [])) xs ys, append-assoc us (n ∷ []) xs) (sym (and-assoc (fitsBy (S us) n) (fitAll S (us ++ (n ∷ [])) xs) (fitAll S (us ++ (n ∷ xs)) ys)))
 
 -- A LINE'S NUMBERS
 pub record Fit (k : Kind) (s : Group) (vs : List ℕ) : Type 0 where
@@ -116,10 +104,7 @@ pub record Whole (k : Kind) (s : Group) (fs : List (List ℕ)) (vs : List ℕ) :
 
 -- the mask that the count goes by may be taken from the head or from the whole
 count-whole : (k : Kind) (s : Group) (xs ys : List ℕ) → length xs ≡ countOf k s 0 → countOf k s (getD xs 2 0) ≡ countOf k s (getD (xs ++ ys) 2 0)
-count-whole k s xs ys l =
-    by-test (eqb (letterOf k) 82)
-    (λ t. let h = reply-heads k s t in let m : 2 < length xs = omega arith in rw (List·getD-append xs ys 0 2 m))
-    (λ f. count-any k s _ _ f)
+count-whole k s xs ys l = count-same k s _ _ (λ h. sym (List·getD-append xs ys 0 2 (omega arith)))
 
 rest-only : (k : Kind) (s : Group) (fs : List (List ℕ)) (vs : List ℕ) → countOf k s 0 ≤ length fs
     → (g : Got) → readAll (limitAfter k s) [] (take (countOf k s 0) fs) ≡ g → readRest k s fs g ≡ values vs → Whole k s fs vs
@@ -157,40 +142,34 @@ enough-count : (k : Kind) (s : Group) (n mask : ℕ) → n ≡ countOf k s mask 
 unfolding pick
 enough-count k s n mask e =
     by-test (eqb (letterOf k) 82)
-    (λ t. let h = heads-count k s mask in rw (t, le-leb (countOf k s 0) n (omega arith)))
+    (λ t. let h = count-range k s mask in rw (t, le-leb (countOf k s 0) n (omega arith)))
     (λ f. rw (f, eq-eqb n (countOf k s 0) (e ∙ count-any k s mask 0 f)))
-
-values-steps : (k : Kind) (s : Group) (fs : List (List ℕ)) (xs vs : List ℕ) → enough k s (length fs) ≡ true
-    → readAll (limitAfter k s) [] (take (countOf k s 0) fs) ≡ values xs → length fs ≡ countOf k s (getD xs 2 0)
-    → readAll (limitAfter k s) xs (drop (countOf k s 0) fs) ≡ values vs → readValues k s fs ≡ values vs
-unfolding readValues pick
-values-steps k s fs xs vs en one ct two = rw (en, one, eq-eqb (length fs) (countOf k s (getD xs 2 0)) ct) two
 
 -- WHAT IS IN RANGE, and spelled in the one way, is read back
 pub values-back : (k : Kind) (s : Group) (vs : List ℕ) → Fit k s vs → readValues k s (spelledAll (limitAfter k s) [] vs) ≡ values vs
+unfolding readValues pick
 values-back k s vs fit =
     let S = limitAfter k s in
     let h = countOf k s 0 in
     let xs = take h vs in
     let ys = drop h vs in
     let j : xs ++ ys ≡ vs = take-append-drop h vs in
-    let hl : h ≤ length vs = let a = heads-count k s (getD vs 2 0) in let b = fit .counted in omega arith in
+    let hl : h ≤ length vs = let a = count-range k s (getD vs 2 0) in let b = fit .counted in omega arith in
     let lx : length xs ≡ h = length-take-le h vs hl in
     let ls : length (spelledAll S [] vs) ≡ length vs = spelled-length S [] vs in
-    let f : fitAll S [] (xs ++ ys) ≡ true = rw j (fit .inside) in
-    let fa = fit-append S [] xs ys f in
+    let fa : (fitAll S [] xs && fitAll S xs ys) ≡ true = sym (fit-append S [] xs ys) ∙ rw j (fit .inside) in
     let sp : spelledAll S [] vs ≡ spelledAll S [] xs ++ spelledAll S xs ys = ap (spelledAll S []) (sym j) ∙ spelled-append S [] xs ys in
     let lsx : length (spelledAll S [] xs) ≡ h = spelled-length S [] xs ∙ lx in
     let tk : take h (spelledAll S [] vs) ≡ spelledAll S [] xs = rw sp (take-at (spelledAll S [] xs) (spelledAll S xs ys) h lsx) in
     let dr : drop h (spelledAll S [] vs) ≡ spelledAll S xs ys = rw sp (drop-at (spelledAll S [] xs) (spelledAll S xs ys) h lsx) in
-    let one : readAll S [] (take h (spelledAll S [] vs)) ≡ values xs = rw tk (read-back S [] xs (fa .0)) in
-    let two : readAll S xs (drop h (spelledAll S [] vs)) ≡ values vs = rw dr (read-back S xs ys (fa .1) ∙ ap values j) in
+    let one : readAll S [] (take h (spelledAll S [] vs)) ≡ values xs = rw tk (read-back S [] xs (and-left (fitAll S [] xs) (fitAll S xs ys) fa)) in
+    let two : readAll S xs (drop h (spelledAll S [] vs)) ≡ values vs = rw dr (read-back S xs ys (and-right (fitAll S [] xs) (fitAll S xs ys) fa) ∙ ap values j) in
     let en : enough k s (length (spelledAll S [] vs)) ≡ true = enough-count k s (length (spelledAll S [] vs)) (getD vs 2 0) (ls ∙ fit .counted) in
     let ct : length (spelledAll S [] vs) ≡ countOf k s (getD xs 2 0) = ls ∙ fit .counted ∙ ap (λ (l : List ℕ). countOf k s (getD l 2 0)) (sym j) ∙ sym (count-whole k s xs ys lx) in
-    values-steps k s (spelledAll S [] vs) xs vs en one ct two
+    rw (en, one, eq-eqb (length (spelledAll S [] vs)) (countOf k s (getD xs 2 0)) ct) two
 
 -- PLACE BY PLACE
-fit-at : (S : List ℕ → Limit) (us ws : List ℕ) → fitAll S us ws ≡ true → (i : ℕ) → i < length ws → fitsBy (S (us ++ take i ws)) (getD ws i 0) ≡ true
+pub fit-at : (S : List ℕ → Limit) (us ws : List ℕ) → fitAll S us ws ≡ true → (i : ℕ) → i < length ws → fitsBy (S (us ++ take i ws)) (getD ws i 0) ≡ true
 unfolding fitAll
 fit-at S us [] e i h = absurd (omega arith)
 fit-at S us (n ∷ ws) e zero h = rw (append-nil us) (and-left (fitsBy (S us) n) (fitAll S (us ++ (n ∷ [])) ws) e)
@@ -206,43 +185,9 @@ fit-all S us (n ∷ ws) h =
 
 -- the label is asked for only where it stands before
 label-late : (k : Kind) (s : Group) (i a b : ℕ) → i ≤ 1 → eqb (letterOf k) 75 ≡ false → limitOf k i s a ≡ limitOf k i s b
-unfolding quantityAt limitFor
-label-late Reading s zero a b h e = refl
-label-late Reading s (suc zero) a b h e = refl
-label-late Query s zero a b h e = refl
-label-late Query s (suc zero) a b h e = refl
-label-late Reply s zero a b h e = refl
-label-late Reply s (suc zero) a b h e = refl
-label-late Advert s zero a b h e = refl
-label-late Advert s (suc zero) a b h e = refl
-label-late Update s zero a b h e = refl
-label-late Update s (suc zero) a b h e = refl
-label-late Vote s zero a b h e = refl
-label-late Vote s (suc zero) a b h e = refl
-label-late Setpoints s zero a b h e = refl
-label-late Setpoints s (suc zero) a b h e = refl
-label-late Due s i a b h e = refl
-label-late CollectingEnds s i a b h e = refl
-label-late VotingEnds s i a b h e = refl
-label-late Floor s i a b h e = refl
-label-late Start s zero a b h e = refl
-label-late Start s (suc zero) a b h e = refl
-label-late Refused s i a b h e = refl
-label-late Sizes s zero a b h e = refl
-label-late Sizes s (suc zero) a b h e = refl
-label-late Filter s zero a b h e = refl
-label-late Filter s (suc zero) a b h e = refl
-label-late Run s i a b h e = absurd-by (cc)
-label-late Reading s (suc (suc i)) a b h e = absurd (omega arith)
-label-late Query s (suc (suc i)) a b h e = absurd (omega arith)
-label-late Reply s (suc (suc i)) a b h e = absurd (omega arith)
-label-late Advert s (suc (suc i)) a b h e = absurd (omega arith)
-label-late Update s (suc (suc i)) a b h e = absurd (omega arith)
-label-late Vote s (suc (suc i)) a b h e = absurd (omega arith)
-label-late Setpoints s (suc (suc i)) a b h e = absurd (omega arith)
-label-late Start s (suc (suc i)) a b h e = absurd (omega arith)
-label-late Sizes s (suc (suc i)) a b h e = absurd (omega arith)
-label-late Filter s (suc (suc i)) a b h e = absurd (omega arith)
+label-late k s i a b h e =
+    let r = row-of k .early e s in
+    by-lt i 1 (λ l. let q : i ≡ 0 = omega arith in rw q (r a .0 ∙ sym (r b .0))) (λ l. let q : i ≡ 1 = omega arith in rw q (r a .1 ∙ sym (r b .1)))
 
 after-is : (k : Kind) (s : Group) (vs : List ℕ) (i : ℕ) → eqb (letterOf k) 75 ≡ false → i < length vs → limitAfter k s ([] ++ take i vs) ≡ limitOf k i s (getD vs 1 0)
 after-is k s vs i e h =

@@ -1,14 +1,14 @@
 -- What the functions need that read a line straight on: one number more, and the whole line. Assumes nothing.
 use Prim.Native.Nat.{ℕ, suc, _+_, _≤_, _<_}
 use mathlib.Core.Path.{_≡_, refl, sym, ap, _∙_}
-use mathlib.Core.List.{List, [], _∷_, _++_, append-assoc, append-nil}
+use mathlib.Core.List.{List, [], _∷_, _++_, append-nil}
 use mathlib.Core.Bool.{Bool, true, false, not}
 use native.Mathlib.Omega.{arith}
 use native.Mathlib.Numerals.{add-one}
 use lib.Dec.{eqb}
-use lib.ListN.{length, getD, take, drop, set, length-set, length-append, take-append-drop, drop-of-length-le}
-use lib.Seq.{drop-cons, take-at, take-suc-set, length-take-le, getD-set-other}
-use borrow.Author.Tests.{eqb-true, not-true, not-false}
+use lib.ListN.{length, getD, take, drop, set, length-set, take-append-drop, drop-of-length-le}
+use lib.Seq.{drop-cons, take-add, take-append-add, take-append-seam, take-suc-set, length-take-le, getD-set-other}
+use borrow.Author.Tests.{eqb-true, not-false}
 use Rattle.units.specs.declared.refusal.Verdict.the-variants.{Taken}
 use Rattle.units.specs.declared.settings.Group.{Group}
 use Rattle.units.specs.Pick.{pick}
@@ -33,11 +33,12 @@ use Rattle.lines.specs.Straight.{Trod, AfterTab}
 use Rattle.lines.specs.Table.{letterOf, kindOf, limitOf, limitFor, quantityAt, countOf}
 use Rattle.lines.specs.Values.{messageOf}
 use Rattle.lines.specs.Walk.{Rest}
-use Rattle.lines.specs.Writing.{textsTo, lineOf}
+use Rattle.lines.specs.Writing.{lineOf}
 use Rattle.lines.proofs.Making.{message-same}
 use Rattle.lines.proofs.Openings.{rest-same}
+use Rattle.lines.proofs.Rows.{count-same}
 use Rattle.lines.proofs.Spelled.{Fit, Read, spelledAll, read-only, read-join, spelling-is, texts-are}
-use Rattle.lines.proofs.Stages.{heads-count, count-any, reply-heads}
+use Rattle.lines.proofs.Walking.{limit-after}
 use Rattle.lines.proofs.Wire.{taken, textOf, letter-only, line-ends, line-back}
 
 -- a byte that stands at a place
@@ -56,11 +57,6 @@ trod-start kind s [] v h l r = absurd (omega arith)
 trod-start kind s (c ∷ cs) v h l r = record { texts = []; passed = refl; got = refl; inside = omega arith; few = omega arith; long = l; rest = r }
 
 -- ONE NUMBER MORE
-pub limit-after : (kind : Kind) (s : Group) (v : List ℕ) (k label : ℕ) (l : Limit) → k ≤ 34 → length v ≡ 34 → label ≡ getD (take k v) 1 0 → l ≡ limitOf kind k s label → l ≡ limitAfter kind s (take k v)
-limit-after kind s v k label l h c le be =
-    let m : k ≤ length v = omega arith in
-    rw (length-take-le k v m, ← le) be
-
 module _ (kind : Kind) (s : Group) (input v : List ℕ) (k at : ℕ) (w : Trod kind s input v k at) (kt : k < 34) (l : Limit) (limit-is : l ≡ limitAfter kind s (take k v))
     (n next : ℕ) (tab : drop at input ≡ 9 ∷ drop (at + 1) input) (e : readHere input (at + 1) (l .spelling) (l .low) (l .high) ≡ Value n next) where
   here : Stands input (at + 1) (l .spelling) (l .low) (l .high) n next
@@ -69,11 +65,8 @@ module _ (kind : Kind) (s : Group) (input v : List ℕ) (k at : ℕ) (w : Trod k
   now-passed : take next input ≡ take at input ++ (9 ∷ spelled (l .spelling) n)
   now-passed =
       let f = spelled (l .spelling) n in
-      let q : input ≡ (take at input ++ (9 ∷ f)) ++ drop next input =
-      sym (take-append-drop at input) ∙ ap (λ (x : List ℕ). take at input ++ x) (tab ∙ ap (λ (x : List ℕ). 9 ∷ x) (here .bytes)) ∙ sym (append-assoc (take at input) (9 ∷ f) (drop next input)) in
-      let m : length (take at input ++ (9 ∷ f)) ≡ next =
-      length-append (take at input) (9 ∷ f) ∙ (let a = length-take-le at input (w .inside) in let b = here .after in omega arith) in
-      ap (take next) q ∙ take-at (take at input ++ (9 ∷ f)) (drop next input) next m
+      let z : next ≡ at + suc (length f) = let b = here .after in omega arith in
+      ap (λ (m : ℕ). take m input) z ∙ take-add at (suc (length f)) input ∙ rw (tab, here .bytes, take-append-seam f (drop next input))
 
   read-more : readAll (limitAfter kind s) [] (w .texts ++ (spelled (l .spelling) n ∷ [])) ≡ values (take k v ++ (n ∷ []))
   unfolding readAll
@@ -97,15 +90,8 @@ module _ (kind : Kind) (s : Group) (input v : List ℕ) (k at : ℕ) (w : Trod k
         rest = λ i h. getD-set-other v k i n 0 (λ z. absurd (omega arith)) ∙ w .rest i (omega arith);
       }
 
--- R's count stays what its mask said
-count-kept : (kind : Kind) (s : Group) (v w : List ℕ) → ((i : ℕ) → i < countOf kind s 0 → getD w i 0 ≡ getD v i 0) → countOf kind s (getD v 2 0) ≡ countOf kind s (getD w 2 0)
-count-kept kind s v w same =
-    by-test (eqb (letterOf kind) 82)
-    (λ t. let h = reply-heads kind s t in ap (countOf kind s) (sym (same 2 (omega arith))))
-    (λ t. count-any kind s (getD v 2 0) (getD w 2 0) t)
-
 -- THE WHOLE LINE
-module _ (kind : Kind) (s : Group) (input v : List ℕ) (k at : ℕ) (w : Trod kind s input v k at) (ke : k ≡ countOf kind s (getD v 2 0)) (gr : groupFits s ≡ true)
+module _ {kind : Kind} {s : Group} {input v : List ℕ} {k at : ℕ} (w : Trod kind s input v k at) (ke : k ≡ countOf kind s (getD v 2 0)) (gr : groupFits s ≡ true)
     (known : kindOf (getD input 0 0) ≡ Known kind) (feed : drop at input ≡ 10 ∷ drop (at + 1) input) where
   letter : getD input 0 0 ≡ letterOf kind
   letter = letter-only (getD input 0 0) kind known
@@ -113,23 +99,17 @@ module _ (kind : Kind) (s : Group) (input v : List ℕ) (k at : ℕ) (w : Trod k
   read : Read (limitAfter kind s) [] (take k v) (w .texts)
   read = read-only (limitAfter kind s) [] (w .texts) (take k v) (w .got)
 
-  count : length (take k v) ≡ k
-  count = length-take-le k v (let a = w .few in let b = w .long in omega arith)
-
   same : (i : ℕ) → getD v i 0 ≡ getD (take k v) i 0
   same i = rest-same v k (w .rest) i
 
   fit : Fit kind s (take k v)
   fit = record {
-    counted = count ∙ ke ∙ ap (countOf kind s) (same 2);
+    counted = length-take-le k v (let a = w .few in let b = w .long in omega arith) ∙ ke ∙ ap (countOf kind s) (same 2);
     inside = rw (← read .joined) at (read .fit);
   }
 
-  texts-is : w .texts ≡ textsTo kind (take k v) (length (take k v))
-  texts-is = read .spelt ∙ ap (spelledAll (limitAfter kind s) []) (sym (read .joined)) ∙ texts-are kind s (take k v) (fit .inside)
-
   text-is : take at input ≡ textOf kind (take k v)
-  text-is = w .passed ∙ rw (letter, texts-is)
+  text-is = w .passed ∙ rw (letter, read .spelt ∙ ap (spelledAll (limitAfter kind s) []) (sym (read .joined)) ∙ texts-are kind s (take k v) (fit .inside))
 
   input-is : input ≡ textOf kind (take k v) ++ (10 ∷ drop (at + 1) input)
   input-is = sym (take-append-drop at input) ∙ rw (text-is, feed)
@@ -142,15 +122,11 @@ module _ (kind : Kind) (s : Group) (input v : List ℕ) (k at : ℕ) (w : Trod k
   feed-is = sym (length-take-le at input (w .inside)) ∙ ap length (text-is ∙ sym until-is)
 
   line-is : firstOf input ≡ lineOf kind (take k v)
-  line-is =
-      let T = textOf kind (take k v) in
-      let q : input ≡ (T ++ (10 ∷ [])) ++ drop (at + 1) input = input-is ∙ sym (append-assoc T (10 ∷ []) (drop (at + 1) input)) in
-      let m : length (T ++ (10 ∷ [])) ≡ length (until 10 input) + 1 = length-append T (10 ∷ []) ∙ rw until-is in
-      ap (take (length (until 10 input) + 1)) q ∙ take-at (T ++ (10 ∷ [])) (drop (at + 1) input) (length (until 10 input) + 1) m ∙ sym (line-ends kind (take k v) .0)
+  line-is = rw until-is (ap (take (length (textOf kind (take k v)) + 1)) input-is ∙ take-append-add (textOf kind (take k v)) (10 ∷ drop (at + 1) input) 1 ∙ sym (line-ends kind (take k v) .0))
 
-  pub straight-line : (m : Message) → m ≡ messageOf s kind v → _≡_ {A = First} (record { line = record { verdict = Taken; message = m }; feed = at }) (firstLine s input)
+  pub straight-line : {m : Message} → m ≡ messageOf s kind v → _≡_ {A = First} (record { line = record { verdict = Taken; message = m }; feed = at }) (firstLine s input)
   unfolding firstLine
-  straight-line m me =
+  straight-line {m} me =
       let r : readLine s (firstOf input) ≡ taken (messageOf s kind (take k v)) = ap (readLine s) line-is ∙ line-back kind s (take k v) gr (rw letter at known) fit in
       let z : m ≡ messageOf s kind (take k v) = me ∙ message-same s kind v (take k v) same in
       rw (r, z, ← feed-is)
@@ -166,19 +142,16 @@ pub record Treading (kind : Kind) (s : Group) (input v₀ : List ℕ) (from to :
 abbrev Came : Kind → Group → List ℕ → List ℕ → ℕ → ℕ → List ℕ → Bool → ℕ → Type 0
 Came kind s input v₀ from to v good at = (good ≡ true → Trod kind s input v to at) × ((i : ℕ) → i < from → getD v i 0 ≡ getD v₀ i 0)
 
-module _ (kind : Kind) (s : Group) (input v₀ : List ℕ) (from to : ℕ) (v : List ℕ) (at k : ℕ) (w : Treading kind s input v₀ from to v at k) where
+module _ {kind : Kind} {s : Group} {input v₀ : List ℕ} {from to : ℕ} {v : List ℕ} {at k : ℕ} (w : Treading kind s input v₀ from to v at k) where
   pub tread-stop : (x : ℕ) → Came kind s input v₀ from to v false x
   tread-stop x = (λ e. absurd-by (cc), w .kept)
 
   pub tread-end : to ≤ k → Came kind s input v₀ from to v true at
-  tread-end h =
-      let a = w .before-end in
-      let q : k ≡ to = omega arith in
-      (λ e. rw q at (w .trod), w .kept)
+  tread-end h = let a = w .before-end in let q : k ≡ to = omega arith in (λ e. rw q at (w .trod), w .kept)
 
-  pub tread-more : k < to → (t : Bool) → t ≡ starts 9 (drop at input) → not t ≡ false → (label : ℕ) (l : Limit) (g : Field) → label ≡ getD (take k v) 1 0 → l ≡ limitOf kind k s label
-      → g ≡ readHere input (at + 1) (l .spelling) (l .low) (l .high) → (n next : ℕ) → g ≡ Value n next → Treading kind s input v₀ from to (set v k n) next (k + 1)
-  tread-more h t te tn label l g le be ge n next e =
+  pub tread-more : k < to → {t : Bool} → t ≡ starts 9 (drop at input) → not t ≡ false → {label : ℕ} {l : Limit} {g : Field} → label ≡ getD (take k v) 1 0 → l ≡ limitOf kind k s label
+      → g ≡ readHere input (at + 1) (l .spelling) (l .low) (l .high) → {n next : ℕ} → g ≡ Value n next → Treading kind s input v₀ from to (set v k n) next (k + 1)
+  tread-more h {t} te tn {label} {l} {g} le be ge {n} {next} e =
       let a = w .after in
       let b = w .room in
       record {
@@ -190,25 +163,12 @@ module _ (kind : Kind) (s : Group) (input v₀ : List ℕ) (from to : ℕ) (v : 
       }
 
 -- `numbers_in`
-abbrev pub All : Kind → Group → List ℕ → List ℕ → Bool → ℕ → Type 0
-All kind s input v good at = good ≡ true → Trod kind s input v (countOf kind s (getD v 2 0)) at
+module _ {kind : Kind} {s : Group} {input v : List ℕ} {heads total at : ℕ} {good : Bool} (came : good ≡ true → Trod kind s input v heads at) (te : total ≡ countOf kind s (getD v 2 0)) where
+  pub all-heads : total ≡ heads → good ≡ true → Trod kind s input v (countOf kind s (getD v 2 0)) at
+  all-heads q e = rw (← te, q) (came e)
 
-module _ (kind : Kind) (s : Group) (input v₀ v : List ℕ) (heads at : ℕ) (good : Bool) (he : heads ≡ countOf kind s 0) (came : Came kind s input v₀ 0 heads v good at) where
-  pub all-not : not good ≡ true → All kind s input v good at
-  all-not n e = let z = not-true good n in absurd-by (cc)
-
-  module _ (n : not good ≡ false) (total : ℕ) (te : total ≡ countOf kind s (getD v 2 0)) where
-    pub head-trod : Trod kind s input v heads at
-    head-trod = came .0 (not-false good n)
-
-    pub total-more : heads ≤ total
-    total-more = rw (he, te) (heads-count kind s (getD v 2 0))
-
-    pub all-heads : total ≡ heads → All kind s input v good at
-    all-heads q e = rw (← te, q) head-trod
-
-    pub all-total : (x : List ℕ) (b : Bool) (end : ℕ) → Came kind s input v heads total x b end → All kind s input x b end
-    all-total x b end c e = rw (← count-kept kind s v x (λ i h. c .1 i (omega arith)), ← te) (c .0 e)
+  pub all-total : {x : List ℕ} {b : Bool} {end : ℕ} → heads ≡ countOf kind s 0 → Came kind s input v heads total x b end → b ≡ true → Trod kind s input x (countOf kind s (getD x 2 0)) end
+  all-total {x} he c e = rw (← count-same kind s (getD v 2 0) (getD x 2 0) (λ l. sym (c .1 2 (omega arith))), ← te) (c .0 e)
 
 -- `after_tab`
 pub after-none : (input : List ℕ) (at : ℕ) (l : Limit) → AfterTab input at l Form
@@ -225,15 +185,12 @@ reading-decimal s n given l e =
     ∙ spelling-is (quantityAt Reading n) s given
     ∙ by-test (eqb n 0) (λ a. rw a) (λ a. by-test (eqb n 1) (λ b. rw (a, b)) (λ b. by-test (eqb n 2) (λ c. rw (a, b, c)) (λ c. rw (a, b, c))))
 
-pub trod-after : (kind : Kind) (s : Group) (input v : List ℕ) (k at : ℕ) → Trod kind s input v k at → k < 34 → (l : Limit) → l ≡ limitAfter kind s (take k v) → (g : Field) → AfterTab input at l g
-    → (n next : ℕ) → g ≡ Value n next → Trod kind s input (set v k n) (k + 1) next
-trod-after kind s input v k at w h l li g a n next e = let p = a n next e in trod-more kind s input v k at w h l li n next (p .0) (p .1)
+pub trod-after : {kind : Kind} {s : Group} {input v : List ℕ} {k at : ℕ} → Trod kind s input v k at → k < 34 → {l : Limit} → l ≡ limitAfter kind s (take k v) → {g : Field} → AfterTab input at l g
+    → {n next : ℕ} → g ≡ Value n next → Trod kind s input (set v k n) (k + 1) next
+trod-after w h li a {n} {next} e = let p = a n next e in trod-more _ _ _ _ _ _ w h _ li n next (p .0) (p .1)
 
 pub at-inside : (text : List ℕ) (at b : ℕ) (t : Bool) → t ≡ starts b (drop at text) → not t ≡ false → at < length text
-unfolding starts
-at-inside text at b t e n =
-    let q : starts b (drop at text) ≡ true = sym e ∙ not-false t n in
-    by-lt at (length text) (λ h. h) (λ h. let z = rw (drop-of-length-le text {i = at} h) at q in absurd-by (cc))
+at-inside text at b t e n = by-lt at (length text) (λ h. h) (λ h. let z = sym (drop-of-length-le text {i = at} h) ∙ at-place text at b t e n in absurd-by (cc))
 
 pub reading-three : (s : Group) (mask : ℕ) → 3 ≡ countOf Reading s mask
 unfolding countOf

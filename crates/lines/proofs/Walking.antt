@@ -6,23 +6,24 @@ use native.Mathlib.Omega.{arith}
 use native.Mathlib.Numerals.{add-one}
 use lib.ListN.{length, getD, take, drop, set, length-set}
 use lib.Seq.{drop-cons, getD-take, take-suc-set, length-take-le, getD-set-other}
-use Rattle.units.specs.declared.refusal.Refusal.the-variants.{Form as NoForm, Range as NoRange}
+use Rattle.units.specs.declared.refusal.Refusal.{Refusal}
 use Rattle.units.specs.declared.refusal.Verdict.the-variants.{Taken, Refused}
 use Rattle.units.specs.declared.settings.Group.{Group}
 use Rattle.fields.specs.declared.digit.Digits.{Digits}
 use Rattle.fields.specs.declared.digit.Digits.the-variants.{Said, Wrong}
 use Rattle.fields.specs.declared.spelling.Spelling.{Spelling}
 use Rattle.fields.specs.declared.field.Field.{Field}
-use Rattle.fields.specs.declared.field.Field.the-variants.{Value, Form, Range}
+use Rattle.fields.specs.declared.field.Field.the-variants.{Value}
 use Rattle.fields.specs.Field.{saidBy, fits, judge, readField, readAt}
-use Rattle.fields.specs.Text.{fieldAt, nextAt, fieldsOf, laterFields}
+use Rattle.fields.specs.Text.{nextAt, fieldsOf, laterFields}
 use Rattle.fields.proofs.Cases.{by-test, absurd-by}
+use Rattle.fields.proofs.Spellings.{read-only}
 use Rattle.fields.proofs.Texts.{cursor-field, cursor-more}
 use Rattle.lines.specs.declared.kind.Kind.{Kind}
 use Rattle.lines.specs.declared.table.Limit.{Limit}
 use Rattle.lines.specs.declared.values.Walk.{Walk}
 use Rattle.lines.specs.Table.{limitOf}
-use Rattle.lines.specs.Reading.{Got, limitAfter, onward, readAll}
+use Rattle.lines.specs.Reading.{Got, stop, limitAfter, onward, readAll}
 use Rattle.lines.specs.Walk.{Here, Rest, Walked}
 
 -- WHAT A FIELD SAYS does not depend on where the next one starts
@@ -35,14 +36,8 @@ read-any : (sp : Spelling) (low high a b : ℕ) (cs : List ℕ) (go : ℕ → Go
 unfolding readField
 read-any sp low high a b cs go = judge-any sp low high a b (saidBy sp cs) go
 
-judge-next : (sp : Spelling) (low high a : ℕ) (d : Digits) (n next : ℕ) → judge sp low high a d ≡ Value n next → next ≡ a
-unfolding judge
-judge-next sp low high a (Said m) n next = by-test (fits sp low high m) (λ t. rw t (λ e. cc)) (λ t. rw t (λ e. absurd-by (cc)))
-judge-next sp low high a Wrong n next = λ e. absurd-by (cc)
-
 pub read-next : (text : List ℕ) (at : ℕ) (sp : Spelling) (low high n next : ℕ) → readAt text at sp low high ≡ Value n next → next ≡ nextAt text at
-unfolding readAt readField
-read-next text at sp low high n next e = judge-next sp low high (nextAt text at) (saidBy sp (fieldAt text at)) n next e
+read-next text at sp low high n next e = read-only text at sp low high n next e .after
 
 -- THE LABEL
 pub label-there : (v : List ℕ) (k : ℕ) → 1 < k → getD v 1 0 ≡ getD (take k v) 1 0
@@ -54,6 +49,11 @@ label-none [] (suc k) h = refl
 label-none (x ∷ v) zero h = refl
 label-none (x ∷ v) (suc zero) h = refl
 label-none (x ∷ v) (suc (suc k)) h = absurd (omega arith)
+
+pub limit-after : (kind : Kind) (s : Group) (v : List ℕ) (k label : ℕ) (l : Limit) → k ≤ 34 → length v ≡ 34 → label ≡ getD (take k v) 1 0 → l ≡ limitOf kind k s label → l ≡ limitAfter kind s (take k v)
+limit-after kind s v k label l h c le be =
+    let m : k ≤ length v = omega arith in
+    rw (length-take-le k v m, ← le) be
 
 -- THE LOOP
 pub record Walking (kind : Kind) (s : Group) (text v₀ : List ℕ) (from to : ℕ) (v : List ℕ) (at k : ℕ) : Type 0 where
@@ -72,20 +72,14 @@ rest-cons ls k to h l =
     let m : k < length ls = omega arith in
     rw (q, drop-cons ls k [] m, ← add-one k)
 
-module _ (kind : Kind) (s : Group) (text v₀ : List ℕ) (from to : ℕ) (v : List ℕ) (at k : ℕ) (w : Walking kind s text v₀ from to v at k) where
-  module _ (kt : k < to) (label : ℕ) (l : Limit) (g : Field) (le : label ≡ getD (take k v) 1 0) (be : l ≡ limitOf kind k s label)
+module _ {kind : Kind} {s : Group} {text v₀ : List ℕ} {from to : ℕ} {v : List ℕ} {at k : ℕ} (w : Walking kind s text v₀ from to v at k) where
+  module _ (kt : k < to) {label : ℕ} {l : Limit} {g : Field} (le : label ≡ getD (take k v) 1 0) (be : l ≡ limitOf kind k s label)
       (ge : g ≡ readAt text at (l .spelling) (l .low) (l .high)) where
-    field-is : fieldsOf (drop at text) ≡ drop k (laterFields text)
+    field-is : fieldsOf (drop at text) ≡ drop (suc k) (fieldsOf text)
     field-is = w .here (let a = w .there in omega arith)
 
-    text-is : fieldsOf (drop at text) ≡ drop (suc k) (fieldsOf text)
-    text-is = field-is
-
     limit-is : l ≡ limitAfter kind s (take k v)
-    limit-is =
-        let a = w .inside in let b = w .room in let c = w .long in
-        let m : k ≤ length v = omega arith in
-        rw (length-take-le k v m, ← le) be
+    limit-is = let a = w .inside in let b = w .room in limit-after kind s v k label l (omega arith) (w .long) le be
 
     stepped : (x : Field) → g ≡ x → readAll (limitAfter kind s) (take k v) (take (to - k) (drop k (laterFields text)))
         ≡ onward x (λ n. readAll (limitAfter kind s) (take k v ++ (n ∷ [])) (take (to - (k + 1)) (drop (k + 1) (laterFields text))))
@@ -94,28 +88,15 @@ module _ (kind : Kind) (s : Group) (text v₀ : List ℕ) (from to : ℕ) (v : L
         let go : ℕ → Got = (λ n. readAll (limitAfter kind s) (take k v ++ (n ∷ [])) (take (to - (k + 1)) (drop (k + 1) (laterFields text)))) in
         rw (rest-cons (laterFields text) k to kt (w .there), ← limit-is)
         (read-any (l .spelling) (l .low) (l .high) 0 (nextAt text at) (getD (laterFields text) k []) go
-        ∙ ap (λ (x : List ℕ). onward (readField (l .spelling) (l .low) (l .high) (nextAt text at) x) go) (sym (cursor-field text at (suc k) text-is))
+        ∙ ap (λ (x : List ℕ). onward (readField (l .spelling) (l .low) (l .high) (nextAt text at) x) go) (sym (cursor-field text at (suc k) field-is))
         ∙ ap (λ (x : Field). onward x go) (sym ge ∙ e))
 
-    module _ (r : Walk) (vs : List ℕ) where
-      pub walk-form : g ≡ Form → r ≡ record { verdict = Refused NoForm; at = at } → Walked kind s text v₀ v from to r
-      walk-form e d = rw d (record {
-        got = sym (w .same ∙ stepped _ e);
-        here = λ z. absurd-by (cc);
-        rest = λ z. absurd-by (cc);
-        long = w .long;
-      })
+    pub walk-stop : {r : Walk} (x : Field) (why : Refusal) → ((go : ℕ → Got) → onward x go ≡ stop why) → g ≡ x → r ≡ record { verdict = Refused why; at = at }
+        → Walked kind s text v₀ v from to r
+    walk-stop x why o e d = rw d (record { got = sym (w .same ∙ stepped x e ∙ o _); here = λ z. absurd-by (cc); rest = λ z. absurd-by (cc); long = w .long })
 
-      pub walk-range : g ≡ Range → r ≡ record { verdict = Refused NoRange; at = at } → Walked kind s text v₀ v from to r
-      walk-range e d = rw d (record {
-        got = sym (w .same ∙ stepped _ e);
-        here = λ z. absurd-by (cc);
-        rest = λ z. absurd-by (cc);
-        long = w .long;
-      })
-
-    pub walk-more : (n next : ℕ) → g ≡ Value n next → Walking kind s text v₀ from to (set v k n) next (k + 1)
-    walk-more n next e =
+    pub walk-more : {n next : ℕ} → g ≡ Value n next → Walking kind s text v₀ from to (set v k n) next (k + 1)
+    walk-more {n} {next} e =
         let a = w .after in
         let b = w .room in
         let c = w .long in
@@ -129,7 +110,7 @@ module _ (kind : Kind) (s : Group) (text v₀ : List ℕ) (from to : ℕ) (v : L
           long = length-set v k n ∙ w .long;
           here = λ h.
               let q : suc k + 1 < length (fieldsOf text) = omega arith in
-              rw (read-next text at (l .spelling) (l .low) (l .high) n next (sym ge ∙ e)) (cursor-more text at (suc k) text-is q ∙ (let j : suc k + 1 ≡ suc (k + 1) = omega arith in rw j));
+              rw (read-next text at (l .spelling) (l .low) (l .high) n next (sym ge ∙ e)) (cursor-more text at (suc k) field-is q ∙ (let j : suc k + 1 ≡ suc (k + 1) = omega arith in rw j));
           rest = λ i h. getD-set-other v k i n 0 (λ z. absurd (omega arith)) ∙ w .rest i (omega arith);
           same = rw t (w .same ∙ stepped _ e);
         }

@@ -24,17 +24,17 @@ use Rattle.fields.proofs.Spellings.{spelled-lacks}
 use Rattle.fields.proofs.Texts.{text-only, fields-back, tabbed-lacks, lacks-append, until-append}
 use Rattle.fields.proofs.Scans.{feed-last}
 use Rattle.lines.specs.declared.kind.Kind.{Kind}
-use Rattle.lines.specs.declared.kind.Kind.the-variants.{Reading, Query, Reply, Advert, Update, Vote, Setpoints, Due, CollectingEnds, VotingEnds, Floor, Start, Refused as OfRefused, Sizes, Filter, Run}
+use Rattle.lines.specs.declared.kind.Kind.the-variants.{Reading, Query, Reply, Advert, Update, Vote, Setpoints, Due, CollectingEnds, VotingEnds, Floor, Start}
 use Rattle.lines.specs.declared.kind.Found.{Found}
 use Rattle.lines.specs.declared.kind.Found.the-variants.{Known, Unknown}
 use Rattle.lines.specs.declared.read.Line.{Line}
 use Rattle.lines.specs.Lists.{column}
 use Rattle.lines.specs.Reading.{Got, values, stop, kindIn, lineWith, readValues, readKnown, readText, endedOnce, readLine}
-use Rattle.lines.specs.Table.{letterOf, kindOf, quantityAt, spellingOf, countOf}
+use Rattle.lines.specs.Table.{letterOf, kindOf, quantityAt, spellingOf}
 use Rattle.lines.specs.Values.{messageOf}
 use Rattle.lines.specs.Writing.{spelledAt, textsTo, lineOf}
 use Rattle.lines.proofs.Putting.{texts-short}
-use Rattle.lines.proofs.Rows.{few-bits}
+use Rattle.lines.proofs.Rows.{row-of, count-range}
 use Rattle.lines.proofs.Spelled.{Fit, values-only, values-back, texts-are}
 
 abbrev pub taken : Message → Line
@@ -54,7 +54,7 @@ letter-only c j e₀ =
     (λ e₈. letter-test c 69 CollectingEnds j _ refl e₈ (λ e₉. letter-test c 86 VotingEnds j _ refl e₉ (λ e₁₀. letter-test c 70 Floor j _ refl e₁₀
     (λ e₁₁. letter-test c 66 Start j _ refl e₁₁ (λ e₁₂. absurd-by (cc)))))))))))))
 
-kind-only : (f : List ℕ) (k : Kind) → kindIn f ≡ Known k → f ≡ letterOf k ∷ []
+pub kind-only : (f : List ℕ) (k : Kind) → kindIn f ≡ Known k → f ≡ letterOf k ∷ []
 kind-only [] k e = absurd-by (cc)
 kind-only (c ∷ []) k e = ap (λ (x : ℕ). x ∷ []) (letter-only c k e)
 kind-only (c ∷ d ∷ f) k e = absurd-by (cc)
@@ -62,9 +62,6 @@ kind-only (c ∷ d ∷ f) k e = absurd-by (cc)
 -- a kind that is read as a message
 abbrev pub Readable : Kind → Type 0
 Readable k = kindOf (letterOf k) ≡ Known k
-
-known-readable : (f : List ℕ) (k : Kind) → kindIn f ≡ Known k → Readable k
-known-readable f k e = rw (kind-only f k e) at e
 
 -- WHAT IS ACCEPTED
 pub record Accepted (s : Group) (line : List ℕ) (a : Message) : Type 0 where
@@ -79,9 +76,6 @@ pub record Accepted (s : Group) (line : List ℕ) (a : Message) : Type 0 where
 not-taken : {A : Type 0} (why : Refusal) (m a : Message) → _≡_ {A = Line} (record { verdict = Refused why; message = m }) (taken a) → A
 not-taken why m a e = let z : Refused why ≡ Taken = ap (λ (l : Line). l .verdict) e in absurd-by (cc)
 
-taken-only : (s : Group) (k : Kind) (g : Got) (a : Message) → lineWith s k g ≡ taken a → (vs : List ℕ) → g ≡ values vs → a ≡ messageOf s k vs
-taken-only s k g a e vs q = sym (ap (λ (l : Line). l .message) (rw q at e))
-
 module _ (s : Group) (line : List ℕ) (a : Message) (gr : groupFits s ≡ true) where
   known-only : (text : List ℕ) → line ≡ text ++ (10 ∷ []) → (k : Kind) → kindIn (firstField text) ≡ Known k → (g : Got) → readValues k s (laterFields text) ≡ g → lineWith s k g ≡ taken a → Accepted s line a
   unfolding lineOf
@@ -94,10 +88,10 @@ module _ (s : Group) (line : List ℕ) (a : Message) (gr : groupFits s ≡ true)
         kind = k;
         numbers = vs;
         group = gr;
-        readable = known-readable (firstField text) k ke;
+        readable = rw (kind-only (firstField text) k ke) at ke;
         fit = w .fit;
         spelt = le ∙ rw t;
-        message = taken-only s k (values vs) a e vs refl;
+        message = sym (ap (λ (l : Line). l .message) e);
       }
 
   text-accepted : (text : List ℕ) → line ≡ text ++ (10 ∷ []) → (f : Found) → kindIn (firstField text) ≡ f → readKnown s (laterFields text) f ≡ taken a → Accepted s line a
@@ -132,22 +126,7 @@ texts-lack b k vs (suc n) h = lack-append b (textsTo k vs n) (spelledAt k vs n �
 
 pub letter-lacks : (b : ℕ) (k : Kind) → b < 46 → lacks b (letterOf k ∷ []) ≡ true
 unfolding lacks
-letter-lacks b Reading h = rw (ne-eqb 77 b (λ e. absurd (omega arith)))
-letter-lacks b Query h = rw (ne-eqb 81 b (λ e. absurd (omega arith)))
-letter-lacks b Reply h = rw (ne-eqb 82 b (λ e. absurd (omega arith)))
-letter-lacks b Advert h = rw (ne-eqb 65 b (λ e. absurd (omega arith)))
-letter-lacks b Update h = rw (ne-eqb 85 b (λ e. absurd (omega arith)))
-letter-lacks b Vote h = rw (ne-eqb 68 b (λ e. absurd (omega arith)))
-letter-lacks b Setpoints h = rw (ne-eqb 83 b (λ e. absurd (omega arith)))
-letter-lacks b Due h = rw (ne-eqb 67 b (λ e. absurd (omega arith)))
-letter-lacks b CollectingEnds h = rw (ne-eqb 69 b (λ e. absurd (omega arith)))
-letter-lacks b VotingEnds h = rw (ne-eqb 86 b (λ e. absurd (omega arith)))
-letter-lacks b Floor h = rw (ne-eqb 70 b (λ e. absurd (omega arith)))
-letter-lacks b Start h = rw (ne-eqb 66 b (λ e. absurd (omega arith)))
-letter-lacks b OfRefused h = rw (ne-eqb 88 b (λ e. absurd (omega arith)))
-letter-lacks b Sizes h = rw (ne-eqb 71 b (λ e. absurd (omega arith)))
-letter-lacks b Filter h = rw (ne-eqb 78 b (λ e. absurd (omega arith)))
-letter-lacks b Run h = rw (ne-eqb 75 b (λ e. absurd (omega arith)))
+letter-lacks b k h = rw (ne-eqb (letterOf k) b (λ e. let l = row-of k .letter in omega arith))
 
 abbrev pub textOf : Kind → List ℕ → List ℕ
 textOf k vs = letterOf k ∷ tabbed (textsTo k vs (length vs))
@@ -166,25 +145,6 @@ unfolding lineOf
 line-short k vs h =
     let a = texts-short k vs (length vs) in
     let b = length-append (tabbed (textsTo k vs (length vs))) (10 ∷ []) in omega arith
-
-count-small : (k : Kind) (s : Group) (mask : ℕ) → countOf k s mask ≤ 34
-unfolding countOf
-count-small Reading s mask = omega arith
-count-small Query s mask = omega arith
-count-small Reply s mask = let a = few-bits mask in omega arith
-count-small Advert s mask = omega arith
-count-small Update s mask = omega arith
-count-small Vote s mask = omega arith
-count-small Setpoints s mask = omega arith
-count-small Due s mask = omega arith
-count-small CollectingEnds s mask = omega arith
-count-small VotingEnds s mask = omega arith
-count-small Floor s mask = omega arith
-count-small Start s mask = omega arith
-count-small OfRefused s mask = omega arith
-count-small Sizes s mask = omega arith
-count-small Filter s mask = omega arith
-count-small Run s mask = omega arith
 
 -- WHAT IS IN RANGE is read back
 module _ (k : Kind) (vs : List ℕ) where
@@ -207,6 +167,6 @@ module _ (k : Kind) (vs : List ℕ) where
 pub line-back : (k : Kind) (s : Group) (vs : List ℕ) → groupFits s ≡ true → Readable k → Fit k s vs → readLine s (lineOf k vs) ≡ taken (messageOf s k vs)
 unfolding readLine readText pick
 line-back k s vs g r f =
-    let l : length (lineOf k vs) ≤ 600 = line-short k vs (let a = f .counted in let b = count-small k s (getD vs 2 0) in omega arith) in
+    let l : length (lineOf k vs) ≤ 600 = line-short k vs (let a = f .counted in let b = count-range k s (getD vs 2 0) in omega arith) in
     let b : readValues k s (textsTo k vs (length vs)) ≡ values vs = rw (← texts-are k s vs (f .inside)) (values-back k s vs f) in
     rw (g, le-leb (length (lineOf k vs)) 600 l, ended-line k vs, feed-at k vs, first-is-letter k vs, later-are-texts k vs, r, b)

@@ -1,6 +1,6 @@
 -- `kind_of` meets its contract. Assumes nothing.
 use borrow.Author.Tests.{ne-eqb}
-use Rattle.units.proofs.Picked.{along}
+use Rattle.units.proofs.Picked.{along, by-no}
 use mathlib.Core.Path.{refl}
 use Rattle.units.specs.Pick.{pick}
 use Rattle.lines.specs.Table.{kindOf}
@@ -8,24 +8,12 @@ use Rattle.lines.proofs.kind.kind_of.Statement.{statement}
 use Rattle.lines.proofs.kind.kind_of.Tie as tie
 
 returns-13 : tie.Need-returns-13
-unfolding kindOf pick
+unfolding kindOf
 returns-13 c =
-    let r = c .match .rest in let l = c .before .args .letter in
-    rw (
-      ne-eqb l 77 (r .0 .0 .0 .0 .0 .0 .0 .0 .0 .0 .0 .1),
-      ne-eqb l 81 (r .0 .0 .0 .0 .0 .0 .0 .0 .0 .0 .1),
-      ne-eqb l 82 (r .0 .0 .0 .0 .0 .0 .0 .0 .0 .1),
-      ne-eqb l 65 (r .0 .0 .0 .0 .0 .0 .0 .0 .1),
-      ne-eqb l 85
-          (r .0 .0 .0 .0 .0 .0 .0 .1),
-      ne-eqb l 68 (r .0 .0 .0 .0 .0 .0 .1),
-      ne-eqb l 83 (r .0 .0 .0 .0 .0 .1),
-      ne-eqb l 67 (r .0 .0 .0 .0 .1),
-      ne-eqb l 69 (r .0 .0 .0 .1),
-      ne-eqb l 86 (r .0 .0 .1),
-      ne-eqb l 70 (r .0 .1),
-      ne-eqb l 66 (r .1),
-    )
+    let r = c .match .rest in let n = ne-eqb (c .before .args .letter) in
+    by-no _ (n 77 (r .0 .0 .0 .0 .0 .0 .0 .0 .0 .0 .0 .1)) (by-no _ (n 81 (r .0 .0 .0 .0 .0 .0 .0 .0 .0 .0 .1)) (by-no _ (n 82 (r .0 .0 .0 .0 .0 .0 .0 .0 .0 .1))
+    (by-no _ (n 65 (r .0 .0 .0 .0 .0 .0 .0 .0 .1)) (by-no _ (n 85 (r .0 .0 .0 .0 .0 .0 .0 .1)) (by-no _ (n 68 (r .0 .0 .0 .0 .0 .0 .1)) (by-no _ (n 83 (r .0 .0 .0 .0 .0 .1))
+    (by-no _ (n 67 (r .0 .0 .0 .0 .1)) (by-no _ (n 69 (r .0 .0 .0 .1)) (by-no _ (n 86 (r .0 .0 .1)) (by-no _ (n 70 (r .0 .1)) (by-no _ (n 66 (r .1)) refl)))))))))))
 
 pub kind-of-spec : {M : Type 1} → statement M
 unfolding kindOf pick

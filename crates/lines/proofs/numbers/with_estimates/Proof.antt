@@ -6,7 +6,6 @@ use borrow.Author.Needs.{needs}
 use lib.ListN.{take}
 use Rattle.lines.specs.Values.{floatsOf}
 use Rattle.lines.proofs.Adding.{Adding, add-start, add-pair}
-use native.Mathlib.Omega.{arith}
 use Rattle.lines.proofs.numbers.with_estimates.Statement.{statement}
 use Rattle.lines.proofs.numbers.with_estimates.Tie as tie
 

@@ -1,5 +1,5 @@
 -- `with_readings` meets its contract. Assumes nothing.
-use Rattle.lines.proofs.Adding.{readings-here, readings-not, readings-none, readings-all}
+use Rattle.lines.proofs.Adding.{readings-here, readings-not, readings-none, readings-all, Adding, add-start}
 use Prim.Native.Nat.{_+_, _-_, _≤_}
 use mathlib.Core.Path.{refl}
 use native.Mathlib.Omega.{arith}
@@ -7,8 +7,6 @@ use borrow.Author.Needs.{needs}
 use lib.ListN.{take}
 use mathlib.Core.Logic.{⊎-elim}
 use Rattle.lines.specs.Values.{rawOf}
-use Rattle.lines.proofs.Adding.{Adding, add-start}
-use native.Mathlib.Omega.{arith}
 use Rattle.lines.proofs.numbers.with_readings.Statement.{statement}
 use Rattle.lines.proofs.numbers.with_readings.Tie as tie
 

@@ -1,15 +1,12 @@
 -- `with_targets` meets its contract. Assumes nothing.
-use Prim.Native.Nat.{_+_, _-_, _≤_}
-use mathlib.Core.Path.{_≡_, refl, sym}
+use Prim.Native.Nat.{_+_, _-_, _≤_, ℕ}
+use mathlib.Core.Path.{_≡_, refl, sym, ap}
 use native.Mathlib.Omega.{arith}
 use borrow.Author.Needs.{needs}
-use Prim.Native.Nat.{ℕ}
-use mathlib.Core.Path.{ap}
 use mathlib.Core.List.{[], _∷_}
 use lib.ListN.{take}
 use Rattle.lines.specs.Values.{targetOf}
 use Rattle.lines.proofs.Adding.{Adding, add-start, add-value}
-use native.Mathlib.Omega.{arith}
 use Rattle.lines.proofs.numbers.with_targets.Statement.{statement}
 use Rattle.lines.proofs.numbers.with_targets.Tie as tie
 

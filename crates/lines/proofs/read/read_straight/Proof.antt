@@ -10,8 +10,8 @@ use Rattle.lines.proofs.read.read_straight.Tie as tie
 returns-3 : tie.Need-returns-3
 returns-3 c =
     let s = c .before .before .before .before .before .before .before .before in let n = c .before .before .before .before .before in
-    straight-line (s .args .kind) (s .args .group) (s .args .input .now) _ _ _ (n .numbers-in .ensures (not-false _ (c .before .before .before .before .if1 .left))) refl (s .pre .0) (s .pre .2)
-    (at-place (s .args .input .now) (n .numbers-in .result .at) 10 _ (c .before .before .before .is-at .ensures) (c .before .before .if2 .left)) _ (c .message-of .ensures)
+    straight-line (n .numbers-in .ensures (not-false _ (c .before .before .before .before .if1 .left))) refl (s .pre .0) (s .pre .2)
+    (at-place (s .args .input .now) (n .numbers-in .result .at) 10 _ (c .before .before .before .is-at .ensures) (c .before .before .if2 .left)) (c .message-of .ensures)
 
 pub read-straight-spec : {M : Type 1} → statement M
 read-straight-spec = tie.close (tie.spec (λ c κs. trod-start _ _ _ _ (c .before .before .pre .1) refl none-read) (λ c κs. search needs) (λ c. search needs) (λ c κs. search needs)

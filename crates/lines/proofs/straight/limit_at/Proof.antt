@@ -1,5 +1,5 @@
 -- `limit_at` meets its contract. Assumes nothing.
-use Rattle.lines.proofs.Straights.{limit-after}
+use Rattle.lines.proofs.Walking.{limit-after}
 use borrow.Author.Needs.{needs}
 use Rattle.lines.proofs.straight.limit_at.Statement.{statement}
 use Rattle.lines.proofs.straight.limit_at.Tie as tie

@@ -8,7 +8,6 @@ use Rattle.floats.specs.Ranges.{blank, noEstimate}
 use Rattle.lines.specs.Table.{runsOf}
 use Rattle.lines.specs.Values.{estimateIn}
 use Rattle.lines.proofs.Making.{estimate-made, estimate-left}
-use native.Mathlib.Omega.{arith}
 use Rattle.lines.proofs.typed.estimates_in.Statement.{statement}
 use Rattle.lines.proofs.typed.estimates_in.Tie as tie
 

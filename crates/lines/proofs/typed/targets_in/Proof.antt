@@ -9,7 +9,6 @@ use Rattle.floats.specs.Bits.{nought}
 use Rattle.lines.specs.Table.{runsOf}
 use Rattle.lines.specs.Values.{targetIn}
 use Rattle.lines.proofs.Making.{target-made, target-left}
-use native.Mathlib.Omega.{arith}
 use Rattle.lines.proofs.typed.targets_in.Statement.{statement}
 use Rattle.lines.proofs.typed.targets_in.Tie as tie
 

@@ -2,9 +2,10 @@
 use Prim.Native.Nat.{_-_}
 use mathlib.Core.Path.{refl}
 use native.Mathlib.Omega.{arith}
+use Rattle.units.specs.declared.refusal.Refusal.the-variants.{Form as NoForm, Range as NoRange}
+use Rattle.fields.specs.declared.field.Field.the-variants.{Form, Range}
 use borrow.Author.Needs.{needs}
-use Rattle.lines.proofs.Walking.{Walking, walk-form, walk-range, walk-more, walk-end}
-use native.Mathlib.Omega.{arith}
+use Rattle.lines.proofs.Walking.{Walking, walk-stop, walk-more, walk-end}
 use Rattle.lines.proofs.values.read_on.Statement.{statement}
 use Rattle.lines.proofs.values.read_on.Tie as tie
 
@@ -19,30 +20,24 @@ loop-holds c = record { after = omega arith; inside = search needs; room = searc
 
 returns : tie.Need-returns Inv-loop μ-loop
 returns c =
-    let r = c .before .before .before in let h = r .before .before .before .before .before in let a = h .before .before .args in
-    walk-form (a .kind) (a .group) (a .text .now) (a .v .now) (a .from) (a .to) (h .loop .v) (h .loop .at) (h .loop .k) (h .loop .inv) (r .before .before .before .before .loop-test .taken)
-    (r .before .before .label-in .result) (r .before .limit-of .result) (r .read-at .result) (r .before .before .label-in .ensures) (r .before .limit-of .ensures) (r .read-at .ensures) _ (h .loop .v)
+    let r = c .before .before .before in let h = r .before .before .before .before .before in
+    walk-stop (h .loop .inv) (r .before .before .before .before .loop-test .taken) (r .before .before .label-in .ensures) (r .before .limit-of .ensures) (r .read-at .ensures) Form NoForm (λ go. refl)
     (c .before .enum-told .given .1) (c .stopped .ensures)
 
 returns-2 : tie.Need-returns-2 Inv-loop μ-loop
 returns-2 c =
-    let r = c .before .before .before in let h = r .before .before .before .before .before in let a = h .before .before .args in
-    walk-range (a .kind) (a .group) (a .text .now) (a .v .now) (a .from) (a .to) (h .loop .v) (h .loop .at) (h .loop .k) (h .loop .inv) (r .before .before .before .before .loop-test .taken)
-    (r .before .before .label-in .result) (r .before .limit-of .result) (r .read-at .result) (r .before .before .label-in .ensures) (r .before .limit-of .ensures) (r .read-at .ensures) _ (h .loop .v)
+    let r = c .before .before .before in let h = r .before .before .before .before .before in
+    walk-stop (h .loop .inv) (r .before .before .before .before .loop-test .taken) (r .before .before .label-in .ensures) (r .before .limit-of .ensures) (r .read-at .ensures) Range NoRange (λ go. refl)
     (c .before .enum-told2 .given .1) (c .stopped2 .ensures)
 
 loop-again : tie.Need-loop-again Inv-loop μ-loop
 loop-again c =
-    let r = c .before .before .before in let h = r .before .before .before .before .before in let a = h .before .before .args in
-    walk-more (a .kind) (a .group) (a .text .now) (a .v .now) (a .from) (a .to) (h .loop .v) (h .loop .at) (h .loop .k) (h .loop .inv) (r .before .before .before .before .loop-test .taken)
-    (r .before .before .label-in .result) (r .before .limit-of .result) (r .read-at .result) (r .before .before .label-in .ensures) (r .before .limit-of .ensures) (r .read-at .ensures) _ _ (c .before .n .given .1)
-
-returns-3 : tie.Need-returns-3 Inv-loop μ-loop
-returns-3 c = let a = c .before .before .before .args in let l = c .before .loop in walk-end (a .kind) (a .group) (a .text .now) (a .v .now) (a .from) (a .to) (l .v) (l .at) (l .k) (l .inv) (c .loop-test .left)
+    let r = c .before .before .before in let h = r .before .before .before .before .before in
+    walk-more (h .loop .inv) (r .before .before .before .before .loop-test .taken) (r .before .before .label-in .ensures) (r .before .limit-of .ensures) (r .read-at .ensures) (c .before .n .given .1)
 
 pub read-on-spec : {M : Type 1} → statement M
 read-on-spec = tie.close (tie.spec Inv-loop μ-loop loop-holds (search needs) (search needs) (search needs) (search needs)
     (λ c. let h = c .before .before .before .before .before .before .before .before .loop .inv in omega arith)
     (λ c. let h = c .before .before .before .before .before .before .before .before .loop .inv in omega arith) (search needs) (search needs) returns (search needs) (search needs) returns-2
     (λ c. let h = c .before .before .before .before .before .before .before .before .loop .inv in omega arith)
-    (λ c. let h = c .before .before .before .before .before .before .before .before .loop .inv in omega arith) loop-again returns-3)
+    (λ c. let h = c .before .before .before .before .before .before .before .before .loop .inv in omega arith) loop-again (λ c. walk-end (c .before .loop .inv) (c .loop-test .left)))

@@ -1,7 +1,6 @@
 -- `put_line` meets its contract. Assumes nothing.
-use mathlib.Core.Path.{refl, _∙_}
+use mathlib.Core.Path.{refl, _∙_, _≡_}
 use Prim.Native.Nat.{_+_, _≤_}
-use mathlib.Core.Path.{_≡_, refl, _∙_}
 use lib.ListN.{length, length-set}
 use native.Mathlib.Omega.{arith}
 use Rattle.lines.proofs.Putting.{line-room, line-answer, numbers-room, line-put, feed-room, room-not, room-yes}
@@ -18,9 +17,8 @@ returns c =
 
 slice-write-buf : tie.Need-slice-write-buf
 slice-write-buf c =
-    let s = c .before .before .before .before in let a = s .args in let h : a .n ≤ length (a .v .now) = omega (arith, s .pre) in let T = length (tabbed (textsTo (a .kind) (a .v .now) (a .n))) in
-    let y : 2 + T ≤ length (a .buf .now) = room-yes _ _ _ (c .before .before .is-enough-for .ensures) (c .before .if1 .left) in
-    omega arith
+    let a = c .before .before .before .before .args in
+    let y : 2 + length (tabbed (textsTo (a .kind) (a .v .now) (a .n))) ≤ length (a .buf .now) = room-yes _ _ _ (c .before .before .is-enough-for .ensures) (c .before .if1 .left) in omega arith
 
 put-numbers-requires : tie.Need-put-numbers-requires
 put-numbers-requires c κs =
@@ -36,11 +34,9 @@ slice-write-buf-2 c =
 
 add-t7 : tie.Need-add-t7
 add-t7 c =
-    let s = c .before .before .before .before .before .before .before .before in let a = s .args in let h : a .n ≤ length (a .v .now) = omega (arith, s .pre) in
-    let T = length (tabbed (textsTo (a .kind) (a .v .now) (a .n))) in let p = c .before .before .put-numbers in
-    let y : 2 + T ≤ length (a .buf .now) = (room-yes _ _ _ (c .before .before .before .before .before .before .is-enough-for .ensures) (c .before .before .before .before .before .if1 .left)) in
-    let q : p .result ≡ 1 + T = p .ensures .0 in
-    omega arith
+    let a = c .before .before .before .before .before .before .before .before .args in let T = length (tabbed (textsTo (a .kind) (a .v .now) (a .n))) in let p = c .before .before .put-numbers in
+    let y : 2 + T ≤ length (a .buf .now) = room-yes _ _ _ (c .before .before .before .before .before .before .is-enough-for .ensures) (c .before .before .before .before .before .if1 .left) in
+    let q : p .result ≡ 1 + T = p .ensures .0 in omega arith
 
 returns-2 : tie.Need-returns-2
 returns-2 c =

@@ -9,7 +9,6 @@ use Rattle.fields.specs.Text.{tabbed}
 use Rattle.lines.specs.Lists.{column}
 use Rattle.lines.specs.Writing.{textsTo}
 use Rattle.lines.proofs.Putting.{tab-room, end-more, put-more}
-use native.Mathlib.Omega.{arith}
 use Rattle.lines.proofs.write.put_numbers.Statement.{statement}
 use Rattle.lines.proofs.write.put_numbers.Tie as tie
 

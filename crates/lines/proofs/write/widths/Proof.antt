@@ -8,7 +8,6 @@ use Rattle.fields.specs.Text.{tabbed}
 use Rattle.lines.specs.Lists.{column}
 use Rattle.lines.specs.Writing.{textsTo}
 use Rattle.lines.proofs.Putting.{width-more, width-short}
-use native.Mathlib.Omega.{arith}
 use Rattle.lines.proofs.write.widths.Statement.{statement}
 use Rattle.lines.proofs.write.widths.Tie as tie
 

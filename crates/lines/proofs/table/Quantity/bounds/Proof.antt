@@ -8,21 +8,11 @@ use borrow.Author.Needs.{needs}
 use Rattle.lines.proofs.table.Quantity.bounds.Statement.{statement}
 use Rattle.lines.proofs.table.Quantity.bounds.Tie as tie
 
-returns : tie.Need-returns
-unfolding limitFor
-returns c = limit-at _ _ (c .before .before .enum-told .given .1) (c .made .ensures ∙ ap (between Decimal 0) (c .before .less-one .ensures))
-
-returns-2 : tie.Need-returns-2
-unfolding limitFor
-returns-2 c = limit-at _ _ (c .before .before .enum-told2 .given .1) (c .made2 .ensures ∙ ap (between Decimal 0) (c .before .less-one2 .ensures))
-
-returns-5 : tie.Need-returns-5
-unfolding limitFor
-returns-5 c = limit-at _ _ (c .before .before .enum-told5 .given .1) (c .made5 .ensures ∙ ap (between Decimal 0) (c .before .less-one3 .ensures))
-
 returns-6 : tie.Need-returns-6
 unfolding limitFor
-returns-6 c = limit-at _ _ (c .before .before .before .before .enum-told6 .given .1) (c .made6 .ensures ∙ ap (between Hex4 1) (c .before .less-one4 .ensures ∙ ap (λ (n : ℕ). n - 1) (c .before .before .wide .ensures ∙ c .before .before .before .mask-end .ensures)))
+returns-6 c =
+    limit-at _ _ (c .before .before .before .before .enum-told6 .given .1)
+    (c .made6 .ensures ∙ ap (between Hex4 1) (c .before .less-one4 .ensures ∙ ap (λ (n : ℕ). n - 1) (c .before .before .wide .ensures ∙ c .before .before .before .mask-end .ensures)))
 
 pub bounds-spec : {M : Type 1} → statement M
 unfolding limitFor
@@ -30,8 +20,11 @@ bounds-spec = tie.close (tie.spec (search needs) (search needs) (search needs) (
     (search needs) (search needs) (search needs) (search needs) (search needs) (search needs) (search needs) (search needs) (search needs) (search needs) (search needs) (search needs)
     (search needs) (search needs) (search needs) (search needs) (search needs) (search needs) (search needs) (search needs) (search needs) (search needs) (search needs) (search needs)
     (search needs) (search needs) (search needs) (search needs) (search needs) (search needs) (search needs) (search needs) (search needs) (search needs) (search needs) (search needs)
-    (search needs) (search needs) (search needs) (search needs) (search needs) (search needs) (search needs) (search needs) (search needs) (search needs) returns returns-2
-    (λ c. limit-at _ _ (c .before .enum-told3 .given .1) (c .made3 .ensures)) (λ c. limit-at _ _ (c .before .enum-told4 .given .1) (c .made4 .ensures)) returns-5 returns-6
+    (search needs) (search needs) (search needs) (search needs) (search needs) (search needs) (search needs) (search needs) (search needs) (search needs)
+    (λ c. limit-at _ _ (c .before .before .enum-told .given .1) (c .made .ensures ∙ ap (between Decimal 0) (c .before .less-one .ensures)))
+    (λ c. limit-at _ _ (c .before .before .enum-told2 .given .1) (c .made2 .ensures ∙ ap (between Decimal 0) (c .before .less-one2 .ensures)))
+    (λ c. limit-at _ _ (c .before .enum-told3 .given .1) (c .made3 .ensures)) (λ c. limit-at _ _ (c .before .enum-told4 .given .1) (c .made4 .ensures))
+    (λ c. limit-at _ _ (c .before .before .enum-told5 .given .1) (c .made5 .ensures ∙ ap (between Decimal 0) (c .before .less-one3 .ensures))) returns-6
     (λ c. limit-at _ _ (c .before .enum-told7 .given .1) (c .made7 .ensures)) (λ c. limit-at _ _ (c .before .enum-told8 .given .1) (c .made8 .ensures))
     (λ c. limit-at _ _ (c .before .enum-told9 .given .1) (c .made9 .ensures)) (λ c. limit-at _ _ (c .before .enum-told10 .given .1) (c .made10 .ensures))
     (λ c. limit-at _ _ (c .before .enum-told11 .given .1) (c .made11 .ensures)) (λ c. limit-at _ _ (c .before .enum-told12 .given .1) (c .made12 .ensures))
