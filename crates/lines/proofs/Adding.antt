@@ -5,8 +5,8 @@ use mathlib.Core.List.{List, [], _∷_, _++_, append-assoc, append-nil}
 use mathlib.Core.Bool.{Bool, true, false}
 use native.Mathlib.Omega.{arith}
 use native.Mathlib.Numerals.{add-one}
-use lib.ListN.{length, getD, take, set, length-append, length-set}
-use lib.Seq.{take-suc-set, length-take-le}
+use lib.ListN.{length, getD, take, set, length-append}
+use lib.Seq.{sets, sets-eq, length-sets, take-at, take-append-le, length-take-le}
 use Rattle.units.specs.declared.settings.Group.{Group}
 use Rattle.units.specs.Mask.{inMask}
 use Rattle.units.specs.Pick.{pick}
@@ -25,12 +25,7 @@ pub numbers-in : {head k : Head} (n : ℕ) {vs : List ℕ} (r : LineNumbers) →
 numbers-in n r e h w l = rw (e, ← w, h .0) (l, h .1, h .2)
 
 pub four-taken : (n a b c d : ℕ) (rest : List ℕ) → n ≤ 4 → take n (a ∷ b ∷ c ∷ d ∷ rest) ≡ take n (a ∷ b ∷ c ∷ d ∷ [])
-four-taken zero a b c d rest h = refl
-four-taken (suc zero) a b c d rest h = refl
-four-taken (suc (suc zero)) a b c d rest h = refl
-four-taken (suc (suc (suc zero))) a b c d rest h = refl
-four-taken (suc (suc (suc (suc zero)))) a b c d rest h = refl
-four-taken (suc (suc (suc (suc (suc n))))) a b c d rest h = absurd (omega arith)
+four-taken n a b c d rest h = take-append-le n (a ∷ b ∷ c ∷ d ∷ []) rest h
 
 -- LISTS ADDED
 pub record Adding (f : ℕ → List ℕ) (from : List ℕ) (v : List ℕ) (at i : ℕ) : Type 0 where
@@ -47,40 +42,26 @@ module _ (f : ℕ → List ℕ) (from : List ℕ) where
     unfolding joined
     add-none e = record { long = w .long; same = rw (add-one i, e, append-nil (joined f i)) (w .same) }
 
-    pub add-value : (y : ℕ) → at < 34 → f i ≡ y ∷ [] → Adding f from (set v at y) (at + 1) (i + 1)
+    add-list : (ys : List ℕ) → at + length ys ≤ 34 → f i ≡ ys → Adding f from (sets v at ys) (at + length ys) (i + 1)
     unfolding joined
-    add-value y h e =
-        let m : at < length v = let l = w .long in omega arith in
+    add-list ys h e =
+        let l = w .long in
+        let n : length (take at v ++ ys) ≡ at + length ys = length-append (take at v) ys ∙ rw (length-take-le at v (omega arith)) in
         record {
-          long = length-set v at y ∙ w .long;
-          same = rw (add-one at, take-suc-set v at y m, add-one i, e, w .same) (append-assoc from (joined f i) (y ∷ []));
+          long = length-sets v at ys ∙ l;
+          same = ap (take (at + length ys)) (sets-eq ys v at (omega arith)) ∙ take-at (take at v ++ ys) _ (at + length ys) n ∙ rw (w .same, add-one i, e) (append-assoc from (joined f i) ys);
         }
 
+    pub add-value : (y : ℕ) → at < 34 → f i ≡ y ∷ [] → Adding f from (set v at y) (at + 1) (i + 1)
+    add-value y h e = add-list (y ∷ []) (omega arith) e
+
     pub add-pair : (y z : ℕ) → at + 1 < 34 → f i ≡ y ∷ z ∷ [] → Adding f from (set (set v at y) (at + 1) z) (at + 2) (i + 1)
-    unfolding joined
-    add-pair y z h e =
-        let l = w .long in
-        let m : at < length v = omega arith in
-        let k : suc at < length (set v at y) = let x = length-set v at y in omega arith in
-        let q : at + 2 ≡ suc (suc at) = omega arith in
-        record {
-          long = length-set (set v at y) (at + 1) z ∙ length-set v at y ∙ l;
-          same = rw (q, add-one at, take-suc-set (set v at y) (suc at) z k, take-suc-set v at y m, add-one i, e, w .same)
-              (append-assoc (from ++ joined f i) (y ∷ []) (z ∷ []) ∙ append-assoc from (joined f i) (y ∷ z ∷ []));
-        }
+    add-pair y z h e = rw (add-one at) (add-list (y ∷ z ∷ []) (omega arith) e)
 
     add-count : at ≤ 34 → at ≡ length (from ++ joined f i)
     add-count h = sym (length-take-le at v (let l = w .long in omega arith)) ∙ ap length (w .same)
 
 -- READINGS
-raw-here : (mask : ℕ) (rs : List ℕ) (i : ℕ) (b : Bool) → b ≡ inMask mask i → b ≡ true → rawOf mask rs i ≡ getD rs i 0 ∷ []
-unfolding pick
-raw-here mask rs i b e t = rw (← e, t)
-
-raw-none : (mask : ℕ) (rs : List ℕ) (i : ℕ) (b : Bool) → b ≡ inMask mask i → b ≡ false → rawOf mask rs i ≡ []
-unfolding pick
-raw-none mask rs i b e t = rw (← e, t)
-
 pub no-raws : (rs : List ℕ) (n : ℕ) → joined (rawOf 0 rs) n ≡ []
 unfolding joined pick
 no-raws rs zero = refl
@@ -128,10 +109,12 @@ roomy s (Refused number) rs l = record { head = omega arith; all = roomy-none (n
 -- `with_readings`
 module _ (mask : ℕ) (rs from v : List ℕ) (at i : ℕ) (w : Adding (rawOf mask rs) from v at i) (b : Bool) (be : b ≡ inMask mask i) (v′ : List ℕ) (at′ : ℕ) where
   pub readings-here : (y : ℕ) → b ≡ true → at < 34 → y ≡ getD rs i 0 → v′ ≡ set v at y → at′ ≡ at + 1 → Adding (rawOf mask rs) from v′ at′ (i + 1)
-  readings-here y t h ye ve ae = rw (ve, ae) (add-value (rawOf mask rs) from v at i w y h (raw-here mask rs i b be t ∙ ap (λ (z : ℕ). z ∷ []) (sym ye)))
+  unfolding pick
+  readings-here y t h ye ve ae = rw (ve, ae) (add-value (rawOf mask rs) from v at i w y h (rw (← be, t, ye)))
 
   pub readings-not : b ≡ false → v′ ≡ v → at′ ≡ at → Adding (rawOf mask rs) from v′ at′ (i + 1)
-  readings-not t ve ae = rw (ve, ae) (add-none (rawOf mask rs) from v at i w (raw-none mask rs i b be t))
+  unfolding pick
+  readings-not t ve ae = rw (ve, ae) (add-none (rawOf mask rs) from v at i w (rw (← be, t)))
 
 pub readings-none : (mask n : ℕ) (rs v : List ℕ) → mask ≡ 0 → n ≤ 4 → length v ≡ 34
     → (n ≡ length (take n v ++ joined (rawOf mask rs) 16)) × (take n v ≡ take n v ++ joined (rawOf mask rs) 16) × (length v ≡ 34)

@@ -1,8 +1,8 @@
 -- WHAT THE ANSWERS ARE, by number and values: the writer's, X's numbers both ways, and the settings' 15. Assumes nothing.
-use Prim.Native.Nat.{ℕ, _+_, _≤_, _<_}
+use Prim.Native.Nat.{ℕ, _+_, _≤_}
 use native.Mathlib.Omega.{arith}
 use mathlib.Core.Path.{_≡_, refl, sym, ap, subst, _∙_}
-use mathlib.Core.Bool.{Bool, true, false}
+use mathlib.Core.Bool.{Bool, true}
 use mathlib.Core.List.{List, [], _∷_, append-nil}
 use lib.Dec.{eqb, leb}
 use lib.ListN.{length, getD}
@@ -16,6 +16,7 @@ use Rattle.units.specs.Refusal.{numberOf}
 use Rattle.units.specs.Settings.{groupFits}
 use Rattle.units.specs.Within.{within}
 use Rattle.units.proofs.Every.{and-left, and-right}
+use Rattle.units.proofs.InRange.{within-range}
 use Rattle.message.specs.declared.head.Head.the-variants.{Refused as X}
 use Rattle.message.specs.declared.settings.Settings.{Settings}
 use Rattle.message.specs.declared.value.Message.{Message}
@@ -25,6 +26,7 @@ use Rattle.message.proofs.Plain.{carries-none, plain-fit}
 use Rattle.fields.specs.declared.field.Field.{Field}
 use Rattle.fields.specs.declared.field.Field.the-variants.{Value, Form, Range}
 use Rattle.fields.specs.declared.spelling.Spelling.the-variants.{Decimal}
+use Rattle.fields.specs.Certificate.{isCertificate}
 use Rattle.fields.specs.Put.{written}
 use Rattle.fields.specs.Text.{lineFeed, until, firstField, laterFields, tabbed}
 use Rattle.fields.proofs.Cases.{by-test, by-lt, absurd-by}
@@ -40,13 +42,13 @@ use Rattle.lines.specs.Answers.{WriterSays, xLine, Taking, begun, more, 
 use Rattle.lines.specs.Lists.{column}
 use Rattle.lines.specs.Reading.{Got, values, stop, refusedLine, readText, readLine, readValues, readBy, endedOnce}
 use Rattle.lines.specs.Settling.{settlingStart, stopped, kept, standingAt, keptValues, afterField, turnOf, anyGroup, settlePlain, settleWeight, settleFactor, settleCertificate, settleRun, expecting, settleText, settleLine, settleOn, settleAll, missing, runWith, certificateOf}
-use Rattle.lines.specs.Table.{kindOf, letterOf, quantityAt, limitOf, runsOf}
+use Rattle.lines.specs.Table.{kindOf, letterOf, quantityAt, limitOf}
 use Rattle.lines.specs.Values.{kindIs, headValues}
 use Rattle.lines.specs.Writing.{lineOf, spellLine, refusalLine, answerOf, bufferOf, writeAnswer, writeBuffer, plainFits}
 use Rattle.lines.proofs.Plain.{plain-values}
 use Rattle.lines.proofs.Meaning.{meaning}
-use Rattle.lines.proofs.Refusing.{GotEarly, Early, values-early}
-use Rattle.lines.proofs.Sending.{group-runs, message-fits}
+use Rattle.lines.proofs.Refusing.{GotEarly, Early, values-early, either}
+use Rattle.lines.proofs.Sending.{message-fits}
 use Rattle.lines.proofs.SettingTrip.{takes, sizes-only, filter-only, run-only}
 use Rattle.lines.proofs.WholeSettings.{sizes-fit}
 use Rattle.lines.proofs.Wire.{taken, line-accepted}
@@ -119,64 +121,49 @@ pub only-settings : (kindOf 88 ≡ Unknown) × (kindOf 71 ≡ Unknown) × (kindO
 unfolding kindOf pick
 only-settings = (refl, refl, refl, refl)
 
--- THE SETTINGS' 15. What a line leads to where it is refused: nothing is taken in, and the reason is 1 to 6
-unfoldable Stops : Settling → Standing → Settling → Type 0
-Stops st More next = Unit {0}
-Stops st Whole next = Unit {0}
-Stops st (Refused why) next = Fifteen (st .line) why × (next ≡ st)
+-- THE SETTINGS' 15. What a line leads to: it is taken in, or nothing is, for a reason of 1 to 6
+data Led (st : Settling) : Settled → Type 0 where
+  took : (s : Settings) → Led st (kept st s)
+  left : (why : Refusal) → Early why → Led st (stopped st why)
 
-unfoldable Stopping : Settling → Settled → Type 0
-Stopping st r = Stops st (r .answer) (r .next)
+same-fifteen : (line : ℕ) (a b : Refusal) → Refused a ≡ Refused b → Fifteen line a → Fifteen line b
+same-fifteen line a b e f = let z : a ≡ b = cc in subst (Fifteen line) z f
 
 module _ (st : Settling) where
-  by-early : (why : Refusal) → Early why → Stopping st (stopped st why)
-  unfolding Stopping Stops
-  by-early why e =
-      let n = numberOf why in
-      (record { reason = n; number = refl; values = refl; low = leb-true 1 n (and-left (leb 1 n) (leb n 6) e); high = leb-true n 6 (and-right (leb 1 n) (leb n 6) e) }, refl)
+  by-values : (go : List ℕ → Settings) (g : Got) → GotEarly g → Led st (keptValues st go g)
+  by-values go (values vs) h = took (go vs)
+  by-values go (stop why) h = left why h
 
-  by-kept : (s : Settings) → Stopping st (kept st s)
-  unfolding Stopping Stops pick
-  by-kept s = by-test (eqb (st .line) (2 + s .numbers .group .m)) (λ e. rw e tt) (λ e. rw e tt)
-
-  by-pick : (b : Bool) (x y : Settled) → Stopping st x → Stopping st y → Stopping st (pick b x y)
-  unfolding pick
-  by-pick true x y p q = p
-  by-pick false x y p q = q
-
-  by-values : (go : List ℕ → Settings) (g : Got) → GotEarly g → Stopping st (keptValues st go g)
-  by-values go (values vs) h = by-kept (go vs)
-  by-values go (stop why) h = by-early why h
-
-  by-field : (f : Field) (go : ℕ → Settled) → ((n : ℕ) → Stopping st (go n)) → Stopping st (afterField st f go)
+  by-field : (f : Field) (go : ℕ → Settled) → ((n : ℕ) → Led st (go n)) → Led st (afterField st f go)
   by-field (Value n next) go h = h n
-  by-field Form go h = by-early NoForm refl
-  by-field Range go h = by-early NoRange refl
+  by-field Form go h = left NoForm refl
+  by-field Range go h = left NoRange refl
 
-  by-weight : (fs : List (List ℕ)) (factor : ℕ) → Stopping st (settleWeight st fs factor)
-  unfolding settleWeight
-  by-weight fs factor = by-field (readBy (limitOf Run 2 anyGroup (turnOf st)) (getD fs 3 [])) _ (λ weight. by-kept (runWith (st .settings) (turnOf st) (certificateOf (getD fs 1 [])) factor weight))
+  by-plain : (kind : Kind) (go : List ℕ → Settings) (text : List ℕ) → Led st (expecting st kind text (settlePlain st kind go (laterFields text)))
+  by-plain kind go text = either (Led st) _ (by-values go (readValues kind anyGroup (laterFields text)) (values-early kind anyGroup (laterFields text))) (left NoKind refl)
 
-  by-factor : (fs : List (List ℕ)) → Stopping st (settleFactor st fs)
-  unfolding settleFactor
-  by-factor fs = by-field (readBy (limitOf Run 1 anyGroup (turnOf st)) (getD fs 2 [])) _ (by-weight fs)
+  abbrev runField : List (List ℕ) → ℕ → ℕ → Field
+  runField fs i place = readBy (limitOf Run i anyGroup (turnOf st)) (getD fs place [])
 
-  by-run : (fs : List (List ℕ)) → Stopping st (settleRun st fs)
-  unfolding settleRun settleCertificate
-  by-run fs = by-pick _ _ _ (by-field (readBy (limitOf Run 0 anyGroup (turnOf st)) (getD fs 0 [])) _ (λ run. by-pick _ _ _ (by-factor fs) (by-early NoForm refl))) (by-early Fields refl)
+  by-run : (fs : List (List ℕ)) → Led st (settleRun st fs)
+  unfolding settleRun settleCertificate settleFactor settleWeight
+  by-run fs =
+      either (Led st) _ (by-field (runField fs 0 0) _ (λ run. either (Led st) (isCertificate (getD fs 1 []))
+      (by-field (runField fs 1 2) _ (λ factor. by-field (runField fs 2 3) _ (λ weight. took (runWith (st .settings) (turnOf st) (certificateOf (getD fs 1 [])) factor weight))))
+      (left NoForm refl))) (left Fields refl)
 
-  by-plain : (kind : Kind) (go : List ℕ → Settings) (text : List ℕ) → Stopping st (expecting st kind text (settlePlain st kind go (laterFields text)))
-  by-plain kind go text = by-pick _ _ _ (by-values go (readValues kind anyGroup (laterFields text)) (values-early kind anyGroup (laterFields text))) (by-early NoKind refl)
+  by-line : (line : List ℕ) → Led st (settleLine st line)
+  unfolding settleLine settleText
+  by-line line =
+      either (Led st) _ (either (Led st) _
+      (either (Led st) _ (by-plain Sizes _ _) (either (Led st) _ (by-plain Filter _ _) (either (Led st) _ (either (Led st) _ (by-run _) (left NoKind refl)) (left NoKind refl))))
+      (left Unended refl)) (left Long refl)
 
-  by-text : (text : List ℕ) → Stopping st (settleText st text)
-  unfolding settleText
-  by-text text =
-      by-pick _ _ _ (by-plain Sizes _ text)
-      (by-pick _ _ _ (by-plain Filter _ text) (by-pick _ _ _ (by-pick _ _ _ (by-run (laterFields text)) (by-early NoKind refl)) (by-early NoKind refl)))
-
-  by-line : (line : List ℕ) → Stopping st (settleLine st line)
-  unfolding settleLine
-  by-line line = by-pick _ _ _ (by-pick _ _ _ (by-text _) (by-early Unended refl)) (by-early Long refl)
+  -- where it is refused, by 15
+  refused-by : {r : Settled} → Led st r → (why : Refusal) → r .answer ≡ Refused why → Fifteen (st .line) why × (r .next ≡ st)
+  unfolding pick
+  refused-by (took s) why e = by-test (eqb (st .line) (2 + s .numbers .group .m)) (λ t. absurd-by (let z = rw t at e in cc)) (λ t. absurd-by (let z = rw t at e in cc))
+  refused-by (left w h) why e = let n = within-range 1 6 (numberOf w) h in (same-fifteen (st .line) _ why e (record { reason = numberOf w; number = refl; values = refl; low = n .0; high = n .1 }), refl)
 
 -- what a taken line leads to, in its turn
 record Next (st next : Settling) (a : Standing) : Type 0 where
@@ -192,22 +179,14 @@ next-by st s x e t h l = rw e (record { line = refl; turn = t; answer = refl; ru
 module _ (st : Settling) (w : Waiting st) (line : List ℕ) (t : takes (settleLine st line .answer) ≡ true) where
   next-is : Next st (settleLine st line .next) (settleLine st line .answer)
   next-is =
-      by-test (eqb (st .line) 1)
+      by-lt (st .line) 2
       (λ a.
-      let k = sizes-only st line (eqb-true (st .line) 1 a) t in
-      let b = group-runs _ (sizes-fit (k .numbers) (k .fit) .1) in
-      next-by st _ _ (k .taken) (let z = eqb-true (st .line) 1 a in omega arith) (b .1) (b .0))
-      (λ a.
-      let p = eqb-false (st .line) 1 a in
-      let x : 2 ≤ st .line = by-lt (st .line) 2 (λ z. absurd (p (let f = w .first in omega arith))) (λ z. z) in
-      let m = w .sized x in
-      by-test (eqb (st .line) 2)
-      (λ b. next-by st _ _ (filter-only st line (eqb-true (st .line) 2 b) t .taken) (w .last) (w .runs) m)
-      (λ b.
-      let q = eqb-false (st .line) 2 b in
-      let y : 3 ≤ st .line = by-lt (st .line) 3 (λ z. absurd (q (omega arith))) (λ z. z) in
-      let z : turnOf st < runsOf (runsRead st) = let l = w .last in let r = w .runs in omega arith in
-      next-by st _ _ (run-only st p q z line t .taken) (w .last) (w .runs) m))
+      let k = sizes-only st line (omega (arith, w .first)) t in
+      let b = sizes-fit (k .numbers) (k .fit) .1 .runs in
+      next-by st _ _ (k .taken) (omega arith) (b .1) (b .0))
+      (λ a. by-lt (st .line) 3
+      (λ b. next-by st _ _ (filter-only st line (omega arith) t .taken) (w .last) (w .runs) (w .sized a))
+      (λ b. next-by st _ _ (run-only st (λ z. absurd (omega arith)) (λ z. absurd (omega arith)) (omega (arith, w .last, w .runs)) line t .taken) (w .last) (w .runs) (w .sized a)))
 
 -- settings that want more wait for a line of 1 to 2 + m
 pub waiting : {st : Settling} → Taking st → Waiting st
@@ -219,7 +198,7 @@ waiting (more {st} line k e) =
     let d = not-whole-at (st .line) (runsRead (settleLine st line .next)) (sym (n .answer) ∙ e) in
     record {
       first = let l = n .line in omega arith;
-      last = by-lt (st .line) (2 + runsRead (settleLine st line .next)) (λ z. let l = n .line in omega arith) (λ z. absurd (d (let t = n .turn in omega arith)));
+      last = omega (arith, n .line, n .turn, d);
       runs = n .runs;
       sized = λ h. n .some;
     }
@@ -228,49 +207,37 @@ waiting (more {st} line k e) =
     not-whole-at line m e h = let z : Whole ≡ More = rw (eq-eqb line (2 + m) h) at e in absurd-by (cc)
 
 -- EVERY ANSWER of a line that is handed to settings that want more, by number and values
-says-taken : (st : Settling) (r : Settled) → takes (r .answer) ≡ true → Next st (r .next) (r .answer) → SettlingSays st r
+says-taken : (st : Settling) (r : Settled) → Next st (r .next) (r .answer) → SettlingSays st r
 unfolding pick
-says-taken st r t n =
+says-taken st r n =
     by-test (eqb (st .line) (2 + runsRead (r .next)))
     (λ e. let a : r .answer ≡ Whole = n .answer ∙ rw e in is-whole (rw a) (rw a) (n .line) (eqb-true (st .line) (2 + runsRead (r .next)) e))
     (λ e.
     let a : r .answer ≡ More = n .answer ∙ rw e in
-    let d = eqb-false (st .line) (2 + runsRead (r .next)) e in
-    goes-on (rw a) (rw a) (n .line) (by-lt (st .line) (2 + runsRead (r .next)) (λ z. z) (λ z. absurd (d (let t = n .turn in omega arith)))))
+    goes-on (rw a) (rw a) (n .line) (omega (arith, n .turn, eqb-false (st .line) (2 + runsRead (r .next)) e)))
 
 says-refused : (st : Settling) (r : Settled) (why : Refusal) → r .answer ≡ Refused why → Fifteen (st .line) why × (r .next ≡ st) → SettlingSays st r
 says-refused st r why e f = let x = f .0 in refuses (x .reason) (rw e (x .number)) (rw e (x .values)) (x .low) (x .high) (f .1)
-
-stops-at : (st : Settling) (a : Standing) (next : Settling) (why : Refusal) → a ≡ Refused why → Stops st a next → Fifteen (st .line) why × (next ≡ st)
-unfolding Stops
-stops-at st a next why e s = rw e at s
-
-stops-by : (st : Settling) (line : List ℕ) (why : Refusal) → settleLine st line .answer ≡ Refused why → Fifteen (st .line) why × (settleLine st line .next ≡ st)
-unfolding Stopping
-stops-by st line why e = stops-at st (settleLine st line .answer) (settleLine st line .next) why e (by-line st line)
 
 pub settling-says : {st : Settling} → Taking st → (line : List ℕ) → SettlingSays st (settleLine st line)
 settling-says {st} k line = by-answer (settleLine st line .answer) refl
   where
     by-answer : (a : Standing) → settleLine st line .answer ≡ a → SettlingSays st (settleLine st line)
-    by-answer More e = says-taken st _ (ap takes e) (next-is st (waiting k) line (ap takes e))
-    by-answer Whole e = says-taken st _ (ap takes e) (next-is st (waiting k) line (ap takes e))
-    by-answer (Refused why) e = says-refused st _ why e (stops-by st line why e)
+    by-answer More e = says-taken st _ (next-is st (waiting k) line (ap takes e))
+    by-answer Whole e = says-taken st _ (next-is st (waiting k) line (ap takes e))
+    by-answer (Refused why) e = says-refused st _ why e (refused-by st (by-line st line) why e)
 
 -- the end of an input within them: its line is missing, 2
 pub missing-says : (st : Settling) → Fifteen (st .line) (missing st)
 missing-says st = record { reason = 2; number = refl; values = refl; low = omega arith; high = omega arith }
 
 -- SETTINGS REFUSED, whatever the lines: 15, the number of the line refused or missing, 1 to 2 + m, and 1 to 6
-same-fifteen : (line : ℕ) (a b : Refusal) → Refused a ≡ Refused b → Fifteen line a → Fifteen line b
-same-fifteen line a b e f = let z : a ≡ b = cc in subst (Fifteen line) z f
-
 settle-next : (go : Settling → Settled) (st : Settling) (l : List ℕ) → Taking st → ((next : Settling) → Taking next → (why : Refusal) → go next .answer ≡ Refused why → SettingsRefused (go next .next) why)
     → (a : Standing) → settleLine st l .answer ≡ a → (why : Refusal) → settleOn go (settleLine st l .next) a .answer ≡ Refused why → SettingsRefused (settleOn go (settleLine st l .next) a .next) why
 settle-next go st l k rec More e why z = rec (settleLine st l .next) (more l k e) why z
 settle-next go st l k rec Whole e why z = absurd-by (cc)
 settle-next go st l k rec (Refused w) e why z =
-    let x = stops-by st l w e in
+    let x = refused-by st (by-line st l) w e in
     rw (x .1) (record { said = same-fifteen (st .line) w why z (x .0); at = waiting k })
 
 settle-from : (lines : List (List ℕ)) (st : Settling) → Taking st → (why : Refusal) → settleAll lines st .answer ≡ Refused why → SettingsRefused (settleAll lines st .next) why

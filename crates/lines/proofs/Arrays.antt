@@ -1,5 +1,5 @@
 -- The arrays of R, U and S, from a message to its line's numbers and back. Assumes nothing.
-use Prim.Native.Nat.{ℕ, zero, suc, _+_, _*_, _/_, _%_, _^_, _≤_, _<_}
+use Prim.Native.Nat.{ℕ, zero, suc, _+_, _*_, _%_, _^_, _≤_, _<_}
 use mathlib.Core.Path.{_≡_, refl, sym, _∙_}
 use mathlib.Core.List.{List, [], _∷_, _++_, append-assoc, append-nil}
 use mathlib.Core.Bool.{Bool, true, false}
@@ -7,24 +7,20 @@ use native.Mathlib.Omega.{arith}
 use native.Mathlib.Numerals.{add-one}
 use native.Mathlib.Nat.{mod-eq-of-lt, add-zero}
 use lib.Count.{ones}
-use lib.Dec.{eqb}
 use lib.Ieee.{Float, nan}
 use lib.ListN.{length, getD, take, drop, length-append, length-drop, List·getD-append}
 use lib.Seq.{take-suc, getD-drop, getD-append-add}
-use borrow.Author.Tests.{lt-ltb, le-ltb, leb-true, le-leb, eqb-true, eq-eqb}
+use borrow.Author.Tests.{lt-ltb, le-ltb, leb-true, le-leb, eqb-true}
 use Rattle.units.specs.declared.estimate.Estimate.{Estimate}
-use Rattle.units.specs.Every.{every}
 use Rattle.units.specs.Limits.{rawTop, xTop, varianceTop, targetTop, labelTop}
 use Rattle.units.specs.Mask.{inMask}
 use Rattle.units.specs.Pick.{pick}
-use Rattle.units.specs.Reading.{readingPlace}
-use Rattle.units.proofs.Every.{every-all}
 use Rattle.floats.specs.Bits.{bitsOf, xBits, varianceBits, targetBits}
 use Rattle.floats.specs.Ranges.{noEstimate, stateFits, targetsFit}
 use Rattle.floats.proofs.Limits.{x-limit, variance-limit, target-limit, limit-back, bits-range, float-back}
 use Rattle.floats.proofs.Places.{estimate-x, estimate-variance, estimate-made, state-length, state-run, state-blank, state-made, targets-length, targets-run, targets-blank, targets-made}
-use Rattle.message.specs.Readings.{readingAt, readingsFit}
-use Rattle.message.proofs.Ranges.{readings-length, readings-place}
+use Rattle.message.specs.Readings.{readingsFit}
+use Rattle.message.proofs.Ranges.{readings-length, readings-place, readings-made}
 use Rattle.fields.proofs.Cases.{by-test, by-lt}
 use Rattle.lines.specs.Lists.{column, joined}
 use Rattle.lines.specs.Values.{word, tally, readingIn, estimateIn, targetIn, rawOf, floatsOf, targetOf}
@@ -45,6 +41,11 @@ unfolding joined
 joined-front f w l zero z h = rw z
 joined-front f w l (suc n) z h = rw (joined-front f w l n z (λ i k. h i (omega arith))) (sym (h n (omega arith)))
 
+mono : (w : ℕ → ℕ) → ((i : ℕ) → w i ≤ w (suc i)) → (i n : ℕ) → i ≤ n → w i ≤ w n
+mono w s i zero h = let q : i ≡ 0 = omega arith in rw q (omega arith)
+mono w s i (suc n) h =
+    by-lt i (suc n) (λ b. let x = mono w s i n (omega arith) in let y = s n in omega arith) (λ b. let q : i ≡ suc n = omega arith in rw q (omega arith))
+
 module _ (f : ℕ → List ℕ) (w : ℕ → ℕ) (z : w 0 ≡ 0) (more : (i : ℕ) → w (suc i) ≡ w i + length (f i)) where
   joined-length : (n : ℕ) → length (joined f n) ≡ w n
   unfolding joined
@@ -52,18 +53,18 @@ module _ (f : ℕ → List ℕ) (w : ℕ → ℕ) (z : w 0 ≡ 0) (more : (i : �
   joined-length (suc n) = length-append (joined f n) (f n) ∙ (let a = joined-length n in let b = more n in omega arith)
 
   -- number j of list i
-  joined-at : (n i j : ℕ) → i < n → j < length (f i) → getD (joined f n) (w i + j) 0 ≡ getD (f i) j 0
+  list-at : (n i j : ℕ) → i < n → j < length (f i) → getD (joined f n) (w i + j) 0 ≡ getD (f i) j 0
   unfolding joined
-  joined-at zero i j h k = absurd (omega arith)
-  joined-at (suc n) i j h k =
+  list-at zero i j h k = absurd (omega arith)
+  list-at (suc n) i j h k =
       let a = joined-length n in
       by-lt i n
-      (λ b. let m : w i + j < length (joined f n) = let x = w-mono i n b in let y = more i in omega arith in List·getD-append (joined f n) (f n) 0 (w i + j) m ∙ joined-at n i j b k)
+      (λ b. let m : w i + j < length (joined f n) = let x = mono w (λ k. let y = more k in omega arith) (suc i) n b in let y = more i in omega arith in
+      List·getD-append (joined f n) (f n) 0 (w i + j) m ∙ list-at n i j b k)
       (λ b. let q : i ≡ n = omega arith in rw (q, ← a) (getD-append-add (joined f n) (f n) j 0))
-    where
-      w-mono : (i n : ℕ) → i < n → w (suc i) ≤ w n
-      w-mono i zero h = absurd (omega arith)
-      w-mono i (suc n) h = by-lt i n (λ b. let x = w-mono i n b in let y = more n in omega arith) (λ b. let q : i ≡ n = omega arith in rw q (omega arith))
+
+  joined-at : (n i j at : ℕ) → at ≡ w i + j → i < n → j < length (f i) → getD (joined f n) at 0 ≡ getD (f i) j 0
+  joined-at n i j at e h k = rw e (list-at n i j h k)
 
 -- FROM NUMBERS TO ARRAYS in range
 abbrev pub rank : ℕ → ℕ → ℕ
@@ -76,22 +77,14 @@ pub rank-suc : (mask i : ℕ) → rank mask (suc i) ≡ tally (inMask mask i) (r
 rank-suc mask i = rw (add-one i) at (bits-step mask i)
 
 pub rank-mono : (mask i n : ℕ) → i ≤ n → rank mask i ≤ rank mask n
-rank-mono mask i zero h = let q : i ≡ 0 = omega arith in rw q (omega arith)
-rank-mono mask i (suc n) h =
-    let a : rank mask (suc n) ≡ rank mask n + mask / 2 ^ n % 2 = rw (← add-one n) (bits-more mask n) in
-    by-lt i (suc n) (λ b. let x = rank-mono mask i n (omega arith) in omega arith) (λ b. let q : i ≡ suc n = omega arith in rw q (omega arith))
-
-reading-place : (mask : ℕ) (vs : List ℕ) (i : ℕ) → (inMask mask i ≡ true → getD vs (3 + rank mask i) 0 ≤ rawTop) → readingPlace (inMask mask i) (readingIn mask vs i) ≡ true
-reading-place mask vs i =
-    by-test (inMask mask i)
-    (λ t. rw t (λ h. let l = h refl in rw (word-is (getD vs (3 + rank mask i) 0) (omega arith)) (le-leb (getD vs (3 + rank mask i) 0) rawTop l)))
-    (λ t. rw t (λ h. refl))
+rank-mono mask i n h = mono (rank mask) (λ j. rw (← add-one j) (let a = bits-more mask j in omega arith)) i n h
 
 pub readings-fit : (mask : ℕ) (vs : List ℕ) → ((i : ℕ) → i < 16 → inMask mask i ≡ true → getD vs (3 + rank mask i) 0 ≤ rawTop) → readingsFit mask (column (readingIn mask vs) 16) ≡ true
-unfolding readingsFit
 readings-fit mask vs h =
-    rw (eq-eqb (length (column (readingIn mask vs) 16)) 16 (length-column (readingIn mask vs) 16))
-    (every-all (readingAt mask (column (readingIn mask vs) 16)) 16 (λ i l. rw (getD-column (readingIn mask vs) 0 16 i l) (reading-place mask vs i (h i l))))
+    readings-made mask (column (readingIn mask vs) 16) (length-column (readingIn mask vs) 16)
+    (λ i l. rw (getD-column (readingIn mask vs) 0 16 i l) (by-test (inMask mask i)
+    (λ t. rw (t, word-is (getD vs (3 + rank mask i) 0) (let k = h i l t in omega arith)) (le-leb (getD vs (3 + rank mask i) 0) rawTop (h i l t)))
+    (λ t. rw t)))
 
 pub estimates-fit : (n : ℕ) (vs : List ℕ) → ((i : ℕ) → i < n → i < 16 → (getD vs (2 + 2 * i) 0 ≤ xBits) × (getD vs (3 + 2 * i) 0 ≤ varianceBits)) → stateFits n (column (estimateIn n vs) 16) ≡ true
 unfolding pick
@@ -117,16 +110,12 @@ floatsAt vs i = getD vs (2 + 2 * i) 0 ∷ getD vs (3 + 2 * i) 0 ∷ []
 abbrev pub targetAt : List ℕ → ℕ → List ℕ
 targetAt vs i = getD vs (4 + i) 0 ∷ []
 
-raw-again : (mask : ℕ) (vs : List ℕ) (i : ℕ) → (inMask mask i ≡ true → getD vs (3 + rank mask i) 0 ≤ rawTop) → pick (inMask mask i) (readingIn mask vs i ∷ []) [] ≡ rawAt mask vs i
-unfolding pick
-raw-again mask vs i =
-    by-test (inMask mask i) (λ t. rw t (λ h. let l = h refl in rw (word-is (getD vs (3 + rank mask i) 0) (omega arith)))) (λ t. rw t (λ h. refl))
-
 pub raws-again : (mask : ℕ) (vs : List ℕ) → ((i : ℕ) → i < 16 → inMask mask i ≡ true → getD vs (3 + rank mask i) 0 ≤ rawTop)
     → joined (rawOf mask (column (readingIn mask vs) 16)) 16 ≡ joined (rawAt mask vs) 16
+unfolding pick
 raws-again mask vs h =
     joined-same (rawOf mask (column (readingIn mask vs) 16)) (rawAt mask vs) 16
-    (λ i l. rw (getD-column (readingIn mask vs) 0 16 i l) (raw-again mask vs i (h i l)))
+    (λ i l. rw (getD-column (readingIn mask vs) 0 16 i l) (by-test (inMask mask i) (λ t. rw (t, word-is (getD vs (3 + rank mask i) 0) (let k = h i l t in omega arith))) (λ t. rw t)))
 
 pub floats-again : (n : ℕ) (vs : List ℕ) → n ≤ 16 → ((i : ℕ) → i < n → i < 16 → (getD vs (2 + 2 * i) 0 ≤ xBits) × (getD vs (3 + 2 * i) 0 ≤ varianceBits))
     → joined (floatsOf (column (estimateIn n vs) 16)) n ≡ joined (floatsAt vs) n
@@ -147,6 +136,9 @@ unfolding pick
 tally-length true n m = refl
 tally-length false n m = sym (add-zero n)
 
+more-taken : (k : ℕ) (vs : List ℕ) (i : ℕ) → k + i < length vs → take (suc i) (drop k vs) ≡ take i (drop k vs) ++ (getD vs (k + i) 0 ∷ [])
+more-taken k vs i h = take-suc (drop k vs) i 0 (let x = length-drop k vs in omega arith) ∙ rw (getD-drop k vs i 0)
+
 pub raws-front : (mask : ℕ) (vs : List ℕ) → 3 + rank mask 16 ≤ length vs → joined (rawAt mask vs) 16 ≡ take (rank mask 16) (drop 3 vs)
 unfolding pick
 raws-front mask vs h = joined-front (rawAt mask vs) (rank mask) (drop 3 vs) 16 (rank-none mask) (λ i l. step i l)
@@ -156,31 +148,19 @@ raws-front mask vs h = joined-front (rawAt mask vs) (rank mask) (drop 3 vs) 16 (
         by-test (inMask mask i)
         (λ t. let a : rank mask (suc i) ≡ suc (rank mask i) = rw t at (rank-suc mask i) ∙ add-one (rank mask i) in
         let m = rank-mono mask (suc i) 16 (omega arith) in
-        let n : rank mask i < length (drop 3 vs) = let x = length-drop 3 vs in omega arith in
-        rw (a, t) (take-suc (drop 3 vs) (rank mask i) 0 n ∙ rw (getD-drop 3 vs (rank mask i) 0)))
+        rw (a, t) (more-taken 3 vs (rank mask i) (omega arith)))
         (λ t. let a : rank mask (suc i) ≡ rank mask i = rw t at (rank-suc mask i) in rw (a, t) (sym (append-nil (take (rank mask i) (drop 3 vs)))))
 
 pub floats-front : (n : ℕ) (vs : List ℕ) → 2 + 2 * n ≤ length vs → joined (floatsAt vs) n ≡ take (2 * n) (drop 2 vs)
-floats-front n vs h = joined-front (floatsAt vs) (λ i. 2 * i) (drop 2 vs) n refl (λ i l. step i l)
-  where
-    step : (i : ℕ) → i < n → take (2 * suc i) (drop 2 vs) ≡ take (2 * i) (drop 2 vs) ++ floatsAt vs i
-    step i l =
-        let x = length-drop 2 vs in
-        let q : 2 * suc i ≡ suc (suc (2 * i)) = omega arith in
-        let a : 2 * i < length (drop 2 vs) = omega arith in
-        let b : suc (2 * i) < length (drop 2 vs) = omega arith in
-        let c : 2 + suc (2 * i) ≡ 3 + 2 * i = omega arith in
-        rw (q, take-suc (drop 2 vs) (suc (2 * i)) 0 b, take-suc (drop 2 vs) (2 * i) 0 a, getD-drop 2 vs (2 * i) 0, getD-drop 2 vs (suc (2 * i)) 0, c)
-        (append-assoc (take (2 * i) (drop 2 vs)) (getD vs (2 + 2 * i) 0 ∷ []) (getD vs (3 + 2 * i) 0 ∷ []))
+floats-front n vs h =
+    joined-front (floatsAt vs) (λ i. 2 * i) (drop 2 vs) n refl
+    (λ i l.
+    let q : 2 * suc i ≡ suc (suc (2 * i)) = omega arith in
+    let c : 2 + suc (2 * i) ≡ 3 + 2 * i = omega arith in
+    rw (q, more-taken 2 vs (suc (2 * i)) (omega arith), more-taken 2 vs (2 * i) (omega arith), c) (append-assoc (take (2 * i) (drop 2 vs)) (getD vs (2 + 2 * i) 0 ∷ []) (getD vs (3 + 2 * i) 0 ∷ [])))
 
 pub targets-front : (n : ℕ) (vs : List ℕ) → 4 + n ≤ length vs → joined (targetAt vs) n ≡ take n (drop 4 vs)
-targets-front n vs h = joined-front (targetAt vs) (λ i. i) (drop 4 vs) n refl (λ i l. step i l)
-  where
-    step : (i : ℕ) → i < n → take (suc i) (drop 4 vs) ≡ take i (drop 4 vs) ++ targetAt vs i
-    step i l =
-        let x = length-drop 4 vs in
-        let a : i < length (drop 4 vs) = omega arith in
-        take-suc (drop 4 vs) i 0 a ∙ rw (getD-drop 4 vs i 0)
+targets-front n vs h = joined-front (targetAt vs) (λ i. i) (drop 4 vs) n refl (λ i l. more-taken 4 vs i (omega arith))
 
 pub reading-range : (mask : ℕ) (rs : List ℕ) → readingsFit mask rs ≡ true → (i : ℕ) → i < 16 → inMask mask i ≡ true → getD rs i 0 ≤ rawTop
 reading-range mask rs e i l t = leb-true (getD rs i 0) rawTop (rw t at (readings-place mask rs e i l))
@@ -188,33 +168,26 @@ reading-range mask rs e i l t = leb-true (getD rs i 0) rawTop (rw t at (readings
 pub readings-back : (mask : ℕ) (rs vs : List ℕ) → readingsFit mask rs ≡ true → ((i : ℕ) → i < 16 → inMask mask i ≡ true → getD vs (3 + rank mask i) 0 ≡ getD rs i 0)
     → column (readingIn mask vs) 16 ≡ rs
 readings-back mask rs vs e h =
-    sym (is-column (readingIn mask vs) 0 16 rs (readings-length mask rs e) (λ i l. place i l (readings-place mask rs e i l) (h i l)))
-  where
-    place : (i : ℕ) → i < 16 → readingPlace (inMask mask i) (getD rs i 0) ≡ true → (inMask mask i ≡ true → getD vs (3 + rank mask i) 0 ≡ getD rs i 0) → getD rs i 0 ≡ readingIn mask vs i
-    place i l =
-        by-test (inMask mask i)
-        (λ t. rw t (λ p q. let a = leb-true (getD rs i 0) rawTop p in rw (q refl) (sym (word-is (getD rs i 0) (omega arith)))))
-        (λ t. rw t (λ p q. eqb-true (getD rs i 0) 0 p))
+    sym (is-column (readingIn mask vs) 0 16 rs (readings-length mask rs e) (λ i l. by-test (inMask mask i)
+    (λ t. rw (t, h i l t) (sym (word-is (getD rs i 0) (let a = reading-range mask rs e i l t in omega arith))))
+    (λ t. rw t (eqb-true (getD rs i 0) 0 (rw t at (readings-place mask rs e i l))))))
 
 -- the numbers that an estimate or a target in range has
 pub estimates-back : (n : ℕ) (es : List Estimate) (vs : List ℕ) → stateFits n es ≡ true
     → ((i : ℕ) → i < n → i < 16 → (getD vs (2 + 2 * i) 0 ≡ bitsOf (getD es i noEstimate .x)) × (getD vs (3 + 2 * i) 0 ≡ bitsOf (getD es i noEstimate .variance)))
     → column (estimateIn n vs) 16 ≡ es
 unfolding pick
-estimates-back n es vs e h = sym (is-column (estimateIn n vs) noEstimate 16 es (state-length n es e) (λ i l. by-lt i n (λ a. run i a l) (λ a. state-blank n es i e a l ∙ sym (rw (le-ltb i n a)))))
-  where
-    run : (i : ℕ) → i < n → i < 16 → getD es i noEstimate ≡ estimateIn n vs i
-    run i a l =
-        let f = state-run n es i e a l in
-        rw (lt-ltb i n a, h i a l .0, h i a l .1, float-back xTop xBits x-limit _ (estimate-x _ f), float-back varianceTop varianceBits variance-limit _ (estimate-variance _ f))
+estimates-back n es vs e h =
+    sym (is-column (estimateIn n vs) noEstimate 16 es (state-length n es e) (λ i l. by-lt i n
+    (λ a. let f = state-run n es i e a l in rw (lt-ltb i n a, h i a l .0, h i a l .1, float-back xTop xBits x-limit _ (estimate-x _ f), float-back varianceTop varianceBits variance-limit _ (estimate-variance _ f)))
+    (λ a. state-blank n es i e a l ∙ sym (rw (le-ltb i n a)))))
 
 pub targets-back : (n : ℕ) (ts : List Float) (vs : List ℕ) → targetsFit n ts ≡ true → ((i : ℕ) → i < n → i < 16 → getD vs (4 + i) 0 ≡ bitsOf (getD ts i nan))
     → column (targetIn n vs) 16 ≡ ts
 unfolding pick
-targets-back n ts vs e h = sym (is-column (targetIn n vs) nan 16 ts (targets-length n ts e) (λ i l. by-lt i n (λ a. run i a l) (λ a. targets-blank n ts i e a l ∙ sym (rw (le-ltb i n a)))))
-  where
-    run : (i : ℕ) → i < n → i < 16 → getD ts i nan ≡ targetIn n vs i
-    run i a l = rw (lt-ltb i n a, h i a l, float-back targetTop targetBits target-limit _ (targets-run n ts i e a l))
+targets-back n ts vs e h =
+    sym (is-column (targetIn n vs) nan 16 ts (targets-length n ts e) (λ i l. by-lt i n
+    (λ a. rw (lt-ltb i n a, h i a l, float-back targetTop targetBits target-limit _ (targets-run n ts i e a l))) (λ a. targets-blank n ts i e a l ∙ sym (rw (le-ltb i n a)))))
 
 -- where each stands among the numbers joined
 raw-length : (mask : ℕ) (rs : List ℕ) (i : ℕ) → rank mask (suc i) ≡ rank mask i + length (rawOf mask rs i)
@@ -225,26 +198,18 @@ raws-length mask rs n = joined-length (rawOf mask rs) (rank mask) (rank-none mas
 
 pub raws-at : (mask : ℕ) (rs : List ℕ) (i : ℕ) → i < 16 → inMask mask i ≡ true → getD (joined (rawOf mask rs) 16) (rank mask i) 0 ≡ getD rs i 0
 unfolding pick
-raws-at mask rs i l t =
-    let a = joined-at (rawOf mask rs) (rank mask) (rank-none mask) (raw-length mask rs) 16 i 0 l (rw t (omega arith)) in
-    rw (add-zero (rank mask i), t) at a
+raws-at mask rs i l t = rw t at (joined-at (rawOf mask rs) (rank mask) (rank-none mask) (raw-length mask rs) 16 i 0 (rank mask i) (omega arith) l (rw t (omega arith)))
 
 pub floats-length : (es : List Estimate) (n : ℕ) → length (joined (floatsOf es) n) ≡ 2 * n
 floats-length es n = joined-length (floatsOf es) (λ i. 2 * i) refl (λ i. omega arith) n
 
 pub floats-at : (es : List Estimate) (n i : ℕ) → i < n → (getD (joined (floatsOf es) n) (2 * i) 0 ≡ bitsOf (getD es i noEstimate .x)) × (getD (joined (floatsOf es) n) (1 + 2 * i) 0 ≡ bitsOf (getD es i noEstimate .variance))
 floats-at es n i l =
-    let a = joined-at (floatsOf es) (λ i. 2 * i) refl (λ i. omega arith) n i 0 l (omega arith) in
-    let b = joined-at (floatsOf es) (λ i. 2 * i) refl (λ i. omega arith) n i 1 l (omega arith) in
-    let p : 2 * i + 0 ≡ 2 * i = omega arith in
-    let q : 2 * i + 1 ≡ 1 + 2 * i = omega arith in
-    (rw p at a, rw q at b)
+    let at = joined-at (floatsOf es) (λ i. 2 * i) refl (λ i. omega arith) n i in
+    (at 0 (2 * i) (omega arith) l (omega arith), at 1 (1 + 2 * i) (omega arith) l (omega arith))
 
 pub targets-count : (ts : List Float) (n : ℕ) → length (joined (targetOf ts) n) ≡ n
 targets-count ts n = joined-length (targetOf ts) (λ i. i) refl (λ i. omega arith) n
 
 pub target-at : (ts : List Float) (n i : ℕ) → i < n → getD (joined (targetOf ts) n) i 0 ≡ bitsOf (getD ts i nan)
-target-at ts n i l =
-    let a = joined-at (targetOf ts) (λ i. i) refl (λ i. omega arith) n i 0 l (omega arith) in
-    let p : i + 0 ≡ i = omega arith in
-    rw p at a
+target-at ts n i l = joined-at (targetOf ts) (λ i. i) refl (λ i. omega arith) n i 0 i (omega arith) l (omega arith)

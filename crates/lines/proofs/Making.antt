@@ -20,7 +20,7 @@ use Rattle.message.specs.declared.head.Carried.{Carried}
 use Rattle.message.specs.declared.value.Message.{Message}
 use Rattle.message.specs.Head.{carried}
 use Rattle.message.specs.Message.{plain}
-use Rattle.units.proofs.Every.{and-left, and-right}
+use Rattle.units.proofs.Every.{and-three}
 use Rattle.units.proofs.Masks.{no-run}
 use Rattle.lines.specs.declared.kind.Kind.{Kind}
 use Rattle.lines.specs.Lists.{column}
@@ -81,15 +81,12 @@ message-made s head h c v readings estimates targets he ce p q r = rw (p, q, r, 
 pub plain-made : (s : Group) (head h : Head) (c : Carried) (v : List ℕ) (m : Message) → head ≡ h → c ≡ carried s head → (eqb (c .readings) 0 && eqb (c .estimates) 0 && eqb (c .targets) 0) ≡ true → m ≡ plain head → m ≡ messageWith s h v
 unfolding plain pick
 plain-made s head h c v m he ce t me =
-    let ab = and-left (eqb (c .readings) 0 && eqb (c .estimates) 0) (eqb (c .targets) 0) t in
-    let a = eqb-true (c .readings) 0 (and-left (eqb (c .readings) 0) (eqb (c .estimates) 0) ab) in
-    let b = eqb-true (c .estimates) 0 (and-right (eqb (c .readings) 0) (eqb (c .estimates) 0) ab) in
-    let d = eqb-true (c .targets) 0 (and-right (eqb (c .readings) 0 && eqb (c .estimates) 0) (eqb (c .targets) 0) t) in
+    let z = and-three (eqb (c .readings) 0) (eqb (c .estimates) 0) (eqb (c .targets) 0) t in
     me
     ∙ message-made s head h c v _ _ _ he ce
-    (fill-done _ 0 0 _ 0 (fill-start (readingIn (c .readings) v) 0 0) (λ j i l. no-readings (c .readings) v j a))
-    (fill-done _ blank blank _ 0 (fill-start (estimateIn (c .estimates) v) blank blank) (λ j i l. rw (b, le-ltb j 0 (omega arith))))
-    (fill-done _ nought nought _ 0 (fill-start (targetIn (c .targets) v) nought nought) (λ j i l. rw (d, le-ltb j 0 (omega arith))))
+    (fill-done _ 0 0 _ 0 (fill-start (readingIn (c .readings) v) 0 0) (λ j i l. no-readings (c .readings) v j (eqb-true (c .readings) 0 (z .0))))
+    (fill-done _ blank blank _ 0 (fill-start (estimateIn (c .estimates) v) blank blank) (λ j i l. rw (eqb-true (c .estimates) 0 (z .1), le-ltb j 0 (omega arith))))
+    (fill-done _ nought nought _ 0 (fill-start (targetIn (c .targets) v) nought nought) (λ j i l. rw (eqb-true (c .targets) 0 (z .2), le-ltb j 0 (omega arith))))
 
 -- a message depends on each number, and on nothing else of their list
 arrays-same : (s : Group) (a : Head) (v w : List ℕ) → ((i : ℕ) → getD v i 0 ≡ getD w i 0) → messageWith s a v ≡ messageWith s a w

@@ -31,14 +31,14 @@ use Rattle.lines.specs.Reading.{Got, values, stop, limitAfter, readBy, o
 use Rattle.lines.specs.Settling.{stopped, settleLine}
 use Rattle.lines.specs.Table.{countOf}
 use Rattle.lines.proofs.Openings.{line-group, line-long, line-unended}
-use Rattle.lines.proofs.Settlings.{line-over, line-open}
+use Rattle.lines.proofs.Settlings.{line-over, line-open, scan-open}
 
 -- OVER 600 BYTES: 1, whatever the bytes
 pub read-long : (s : Group) (line : List ℕ) → groupFits s ≡ true → lineTop < length line → readLine s line ≡ refusedLine Long
 read-long s line g h = sym (line-long s line true (refusedLine Long) (sym g) refl h refl)
 
 pub settle-long : (st : Settling) (line : List ℕ) → lineTop < length line → settleLine st line ≡ stopped st Long
-settle-long st line h = sym (line-over st line (stopped st Long) h refl)
+settle-long st line h = line-over st line h
 
 -- so two such lines are read alike, by any group
 pub read-alike : (s : Group) (l k : List ℕ) → lineTop < length l → lineTop < length k → readLine s l ≡ readLine s k
@@ -57,7 +57,7 @@ module _ (p : List ℕ) (l : length p ≤ lineTop) (e : lacks lineFeed p ≡ tru
   read-unended s g = sym (line-unended s p true (refusedLine Unended) (sym g) refl l (scanned p) refl not-last refl)
 
   pub settle-unended : (st : Settling) → settleLine st p ≡ stopped st Unended
-  settle-unended st = sym (line-open st p (stopped st Unended) l (scanned p) refl not-last refl)
+  settle-unended st = line-open st p l (scan-open p (scanned p) refl not-last)
 
 -- THE READER REFUSES BY 1 TO 6
 abbrev pub Early : Refusal → Type 0
@@ -81,18 +81,19 @@ unfolding readAll
 all-early S us [] = tt
 all-early S us (f ∷ fs) = onward-early (readBy (S us) f) (λ n. readAll S (us ++ (n ∷ [])) fs) (λ n. all-early S (us ++ (n ∷ [])) fs)
 
-pick-early : (t : Bool) (a b : Got) → GotEarly a → GotEarly b → GotEarly (pick t a b)
+-- what holds of both holds of either
+pub either : {A : Type 0} (P : A → Type 0) (t : Bool) {a b : A} → P a → P b → P (pick t a b)
 unfolding pick
-pick-early true a b p q = p
-pick-early false a b p q = q
+either P true p q = p
+either P false p q = q
 
 rest-early : (kind : Kind) (s : Group) (fs : List (List ℕ)) (g : Got) → GotEarly g → GotEarly (readRest kind s fs g)
-rest-early kind s fs (values us) h = pick-early _ _ _ (all-early (limitAfter kind s) us (drop (countOf kind s 0) fs)) refl
+rest-early kind s fs (values us) h = either GotEarly _ (all-early (limitAfter kind s) us (drop (countOf kind s 0) fs)) refl
 rest-early kind s fs (stop why) h = h
 
 pub values-early : (kind : Kind) (s : Group) (fs : List (List ℕ)) → GotEarly (readValues kind s fs)
 unfolding readValues
-values-early kind s fs = pick-early _ _ _ (rest-early kind s fs (readAll (limitAfter kind s) [] (take (countOf kind s 0) fs)) (all-early (limitAfter kind s) [] (take (countOf kind s 0) fs))) refl
+values-early kind s fs = either GotEarly _ (rest-early kind s fs (readAll (limitAfter kind s) [] (take (countOf kind s 0) fs)) (all-early (limitAfter kind s) [] (take (countOf kind s 0) fs))) refl
 
 with-early : (s : Group) (kind : Kind) (g : Got) → GotEarly g → VerdictEarly (lineWith s kind g .verdict)
 with-early s kind (values vs) h = tt
@@ -102,15 +103,13 @@ known-early : (s : Group) (fs : List (List ℕ)) (f : Found) → VerdictEarly (r
 known-early s fs (Known kind) = with-early s kind (readValues kind s fs) (values-early kind s fs)
 known-early s fs Unknown = refl
 
-pick-line : (t : Bool) (a b : Line) → VerdictEarly (a .verdict) → VerdictEarly (b .verdict) → VerdictEarly (pick t a b .verdict)
-unfolding pick
-pick-line true a b p q = p
-pick-line false a b p q = q
+abbrev LineEarly : Line → Type 0
+LineEarly l = VerdictEarly (l .verdict)
 
-read-early : (s : Group) (line : List ℕ) → VerdictEarly (readLine s line .verdict)
+read-early : (s : Group) (line : List ℕ) → LineEarly (readLine s line)
 unfolding readLine readText
 read-early s line =
-    pick-line (groupFits s) _ _ (pick-line (leb (length line) lineTop) _ _ (pick-line (endedOnce line) _ _ (known-early s _ (kindIn (firstField (until lineFeed line)))) refl) refl) refl
+    either LineEarly (groupFits s) (either LineEarly (leb (length line) lineTop) (either LineEarly (endedOnce line) (known-early s _ (kindIn (firstField (until lineFeed line)))) refl) refl) refl
 
 pub reader-refuses : (s : Group) (line : List ℕ) (why : Refusal) → readLine s line .verdict ≡ Refused why → within 1 6 (numberOf why) ≡ true
 reader-refuses s line why e = subst VerdictEarly e (read-early s line)

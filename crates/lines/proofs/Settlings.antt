@@ -4,16 +4,14 @@ use mathlib.Core.Path.{_≡_, refl, sym, ap, _∙_}
 use mathlib.Core.List.{List, [], _∷_}
 use mathlib.Core.Bool.{Bool, true, false, not}
 use native.Mathlib.Omega.{arith}
-use lib.Dec.{eqb}
 use lib.ListN.{length, getD, take, drop, length-drop, List·getD-eq-default}
 use lib.Seq.{getD-take, getD-drop, length-take-le}
-use borrow.Author.Tests.{eq-eqb, ne-eqb, le-leb, lt-leb, lt-ltb, le-ltb, not-true, not-false}
-use Rattle.units.specs.declared.refusal.Refusal.{Refusal}
-use Rattle.units.specs.declared.refusal.Refusal.the-variants.{Long, Unended, Kind as NoKind, Fields, Form as NoForm}
+use borrow.Author.Tests.{eq-eqb, ne-eqb, eqb-true, le-leb, lt-leb, lt-ltb, le-ltb, not-true, not-false}
+use Rattle.units.specs.declared.refusal.Refusal.the-variants.{Long, Unended, Kind as NoKind}
 use Rattle.units.specs.declared.refusal.Verdict.{Verdict}
-use Rattle.units.specs.declared.refusal.Verdict.the-variants.{Taken, Refused}
 use Rattle.units.specs.declared.settings.Group.{Group}
 use Rattle.units.specs.Pick.{pick}
+use Rattle.units.proofs.Picked.{by-yes}
 use Rattle.message.specs.declared.certificate.Certificate.{Certificate}
 use Rattle.message.specs.declared.settings.Settings.{Settings}
 use Rattle.fields.specs.declared.certificate.Certificate.{Certificate as Found}
@@ -26,94 +24,62 @@ use Rattle.fields.specs.declared.spelling.Spelling.{Spelling}
 use Rattle.fields.specs.declared.text.Scan.{Scan}
 use Rattle.fields.specs.Certificate.{isCertificate, certificateAt}
 use Rattle.fields.specs.Field.{saidBy, fits, judge, readField, readAt}
-use Rattle.fields.specs.Text.{until, firstField, laterFields, fieldsOf, fieldAt, nextAt, ends, scanned}
+use Rattle.fields.specs.Text.{until, firstField, laterFields, fieldsOf, fieldAt, nextAt, scanned}
 use Rattle.fields.proofs.Cases.{by-test, absurd-by}
 use Rattle.fields.proofs.Certificates.{certificate-only, certificate-long}
-use Rattle.fields.proofs.Texts.{cursor-field, cursor-more, first-none, until-take, until-short}
+use Rattle.fields.proofs.Texts.{cursor-field, cursor-more, until-take, until-short}
 use Rattle.lines.specs.declared.kind.Kind.{Kind}
 use Rattle.lines.specs.declared.kind.Kind.the-variants.{Sizes, Filter, Run}
-use Rattle.lines.specs.declared.settle.Standing.the-variants.{More, Whole}
 use Rattle.lines.specs.declared.settle.Settled.{Settled}
 use Rattle.lines.specs.declared.settle.Settling.{Settling}
 use Rattle.lines.specs.declared.table.Limit.{Limit}
 use Rattle.lines.specs.Lists.{column}
-use Rattle.lines.specs.Reading.{values, stop, readBy, readValues}
-use Rattle.lines.specs.Settling.{standingAt, kept, stopped, withSizes, withFilter, runWith, certificateOf, turnOf, anyGroup, settlePlain, afterField, settleFactor, settleCertificate, settleRun, isKind, expecting, settleText, settleLine}
+use Rattle.lines.specs.Reading.{readBy, readValues, endedOnce}
+use Rattle.lines.specs.Settling.{kept, stopped, withSizes, withFilter, runWith, certificateOf, turnOf, anyGroup, keptValues, settlePlain, afterField, settleRun, isKind, expecting, settleText, settleLine}
 use Rattle.lines.specs.Table.{letterOf, limitOf, runsOf}
-use Rattle.lines.specs.Walk.{Here, Filled}
-use Rattle.lines.proofs.Openings.{one-byte, two-bytes, rest-same}
+use Rattle.lines.specs.Walk.{Here, Rest, gotOf, Filled}
+use Rattle.lines.proofs.Openings.{rest-same}
+use Rattle.lines.proofs.Stages.{here-start}
 use Rattle.lines.proofs.Walking.{read-next}
 
--- THE ANSWER
-module _ (line m : ℕ) where
-  pub answer-early : line < 2 → More ≡ standingAt line m
-  unfolding pick
-  answer-early h = rw (ne-eqb line (2 + m) (λ e. absurd (omega arith)))
-
-  pub answer-whole : 2 ≤ line → line - 2 ≡ m → Whole ≡ standingAt line m
-  unfolding pick
-  answer-whole h e = rw (eq-eqb line (2 + m) (omega arith))
-
-  pub answer-more : 2 ≤ line → (line - 2 ≡ m → ⊥) → More ≡ standingAt line m
-  unfolding pick
-  answer-more h d = rw (ne-eqb line (2 + m) (λ e. d (omega arith)))
-
 -- THE KIND
-kind-far : (kind : Kind) (f : List ℕ) → 1 < length f → false ≡ isKind kind f
+pub kind-far : (kind : Kind) (f : List ℕ) → 1 < length f → false ≡ isKind kind f
 unfolding isKind
 kind-far kind [] h = refl
 kind-far kind (c ∷ []) h = absurd (omega arith)
 kind-far kind (c ∷ d ∷ f) h = refl
 
-module _ (kind : Kind) (text : List ℕ) (a : Bool) (ae : a ≡ ends (drop 0 text)) where
-  pub is-none : a ≡ true → false ≡ isKind kind (firstField text)
-  unfolding isKind
-  is-none t = rw (first-none text (sym ae ∙ t))
-
-  module _ (b : Bool) (be : b ≡ ends (drop 1 text)) (t : a ≡ false) where
-    pub is-one : (l : ℕ) → b ≡ true → l ≡ letterOf kind → eqb (getD text 0 0) l ≡ isKind kind (firstField text)
-    unfolding isKind
-    is-one l u e = rw (one-byte text (sym ae ∙ t) (sym be ∙ u), e)
-
-    pub is-more : b ≡ false → false ≡ isKind kind (firstField text)
-    is-more u = kind-far kind (firstField text) (two-bytes text (sym ae ∙ t) (sym be ∙ u))
-
-is-short : (kind : Kind) (f : List ℕ) → isKind kind f ≡ true → length f ≡ 1
+pub kind-is : (kind : Kind) (f : List ℕ) → isKind kind f ≡ true → f ≡ letterOf kind ∷ []
 unfolding isKind
-is-short kind [] e = absurd-by (cc)
-is-short kind (c ∷ []) e = refl
-is-short kind (c ∷ d ∷ f) e = absurd-by (cc)
+kind-is kind [] e = absurd-by (cc)
+kind-is kind (c ∷ []) e = ap (λ (x : ℕ). x ∷ []) (eqb-true c (letterOf kind) e)
+kind-is kind (c ∷ d ∷ f) e = absurd-by (cc)
 
-module _ (st : Settling) (kind : Kind) (text : List ℕ) (go r : Settled) (b : Bool) (be : b ≡ isKind kind (firstField text)) where
-  pub unexpected : not b ≡ true → r ≡ stopped st NoKind → r ≡ expecting st kind text go
-  unfolding pick
-  unexpected t e = rw (← be, not-true b t) e
+-- the kind that is expected, by the test of the code
+pub was-kind : {b c : Bool} → b ≡ c → not b ≡ false → c ≡ true
+was-kind {b} e t = sym e ∙ not-false b t
 
-  pub expected : not b ≡ false → r ≡ go → r ≡ expecting st kind text go
-  unfolding pick
-  expected t e = rw (← be, not-false b t) e
+pub was-not : {b c : Bool} → b ≡ c → not b ≡ true → c ≡ false
+was-not {b} e t = sym e ∙ not-true b t
 
-pub expected-short : (kind : Kind) (text : List ℕ) (b : Bool) → b ≡ isKind kind (firstField text) → not b ≡ false → length (firstField text) ≡ 1
-expected-short kind text b be t = is-short kind (firstField text) (sym be ∙ not-false b t)
+-- it is one letter
+pub kind-start : (kind : Kind) (text : List ℕ) → isKind kind (firstField text) ≡ true → Here text 2 0
+kind-start kind text e = here-start text (ap length (kind-is kind (firstField text) e))
 
 -- G AND N
-module _ (st : Settling) (kind : Kind) (s : Group) (se : s ≡ anyGroup) (text w : List ℕ) (a : Verdict) (f : Filled kind s text w (readValues kind s (laterFields text)) a) (go : List ℕ → Settings) (r : Settled) where
-  pub plain-kept : (settings : Settings) → a ≡ Taken → settings ≡ go (take (length (laterFields text)) w) → r ≡ kept st settings → r ≡ settlePlain st kind go (laterFields text)
-  plain-kept settings t e h =
-      let g : readValues kind anyGroup (laterFields text) ≡ values (take (length (laterFields text)) w) = ap (λ (x : Group). readValues kind x (laterFields text)) (sym se) ∙ sym (f .got) ∙ rw t in
-      rw (g, ← e) h
+module _ (st : Settling) (kind : Kind) (text : List ℕ) (is : isKind kind (firstField text) ≡ true) {s : Group} (se : s ≡ anyGroup) {w : List ℕ} {a : Verdict}
+    (f : Filled kind s text w (readValues kind s (laterFields text)) a) (go : List ℕ → Settings) {r : Settled} where
+  pub plain-got : {v : Verdict} → a ≡ v → r ≡ keptValues st go (gotOf v (take (length (laterFields text)) w)) → r ≡ expecting st kind text (settlePlain st kind go (laterFields text))
+  plain-got e h =
+      by-yes _ is
+      (h ∙ ap (keptValues st go) (ap (λ (v : Verdict). gotOf v (take (length (laterFields text)) w)) (sym e) ∙ f .got ∙ ap (λ (x : Group). readValues kind x (laterFields text)) se))
 
-  pub plain-stop : (why : Refusal) → a ≡ Refused why → r ≡ stopped st why → r ≡ settlePlain st kind go (laterFields text)
-  plain-stop why t h =
-      let g : readValues kind anyGroup (laterFields text) ≡ stop why = ap (λ (x : Group). readValues kind x (laterFields text)) (sym se) ∙ sym (f .got) ∙ rw t in
-      rw g h
+module _ (w : List ℕ) (n : ℕ) (rest : Rest w n) (settings : Settings) {x : Settings} where
+  pub sizes-are : x ≡ withSizes settings (getD w 0 0 ∷ getD w 1 0 ∷ []) → x ≡ withSizes settings (take n w)
+  sizes-are e = let z = rest-same w n rest in e ∙ rw (z 0, z 1)
 
-module _ (kind : Kind) (s : Group) (text w : List ℕ) (a : Verdict) (f : Filled kind s text w (readValues kind s (laterFields text)) a) (t : a ≡ Taken) (settings x : Settings) where
-  pub sizes-are : x ≡ withSizes settings (getD w 0 0 ∷ getD w 1 0 ∷ []) → x ≡ withSizes settings (take (length (laterFields text)) w)
-  sizes-are e = let z = rest-same w (length (laterFields text)) (f .rest t) in e ∙ rw (z 0, z 1)
-
-  pub filter-are : x ≡ withFilter settings (getD w 0 0 ∷ getD w 1 0 ∷ getD w 2 0 ∷ []) → x ≡ withFilter settings (take (length (laterFields text)) w)
-  filter-are e = let z = rest-same w (length (laterFields text)) (f .rest t) in e ∙ rw (z 0, z 1, z 2)
+  pub filter-are : x ≡ withFilter settings (getD w 0 0 ∷ getD w 1 0 ∷ getD w 2 0 ∷ []) → x ≡ withFilter settings (take n w)
+  filter-are e = let z = rest-same w n rest in e ∙ rw (z 0, z 1, z 2)
 
 -- A CERTIFICATE'S BYTES
 module _ (text : List ℕ) (from to : ℕ) where
@@ -146,25 +112,24 @@ here-more text at k next h l e m =
 here-field : (text : List ℕ) (at k : ℕ) → Here text at k → k < length (laterFields text) → fieldAt text at ≡ getD (laterFields text) k []
 here-field text at k h l = cursor-field text at (suc k) (h l)
 
-module _ (st : Settling) (text : List ℕ) (at k i : ℕ) (s : Group) (turn : ℕ) (l : Limit) (g : Field) (se : s ≡ anyGroup) (te : turn ≡ turnOf st)
-    (le : l ≡ limitOf Run i s turn) (ge : g ≡ readAt text at (l .spelling) (l .low) (l .high)) (h : Here text at k) (kl : k < length (laterFields text)) where
-  pub field-after : (x : Field) (go : ℕ → Settled) (r : Settled) → g ≡ x → r ≡ afterField st x go
-      → r ≡ afterField st (readBy (limitOf Run i anyGroup (turnOf st)) (getD (laterFields text) k [])) go
-  unfolding readAt readField
-  field-after x go r e d =
-      rw (← te, ← se, ← le, ← here-field text at k h kl)
-      (d ∙ ap (λ (y : Field). afterField st y go) (sym e ∙ ge)
-      ∙ judge-after st (l .spelling) (l .low) (l .high) (nextAt text at) 0 (saidBy (l .spelling) (fieldAt text at)) go)
+-- what is read of a field decides, and leads to the next field
+pub record Judged (st : Settling) (text : List ℕ) (k i : ℕ) (g : Field) : Type 0 where
+  pub after : {x : Field} (go : ℕ → Settled) {r : Settled} → g ≡ x → r ≡ afterField st x go → r ≡ afterField st (readBy (limitOf Run i anyGroup (turnOf st)) (getD (laterFields text) k [])) go
+  pub more : {n next : ℕ} → g ≡ Value n next → Here text next (k + 1)
 
-  pub field-more : (n next : ℕ) → g ≡ Value n next → Here text next (k + 1)
-  field-more n next e = here-more text at k next h kl (read-next text at (l .spelling) (l .low) (l .high) n next (sym ge ∙ e))
+pub judged : (st : Settling) (text : List ℕ) (at k i : ℕ) {s : Group} {turn : ℕ} {l : Limit} {g : Field} → s ≡ anyGroup → turn ≡ turnOf st → l ≡ limitOf Run i s turn
+    → g ≡ readAt text at (l .spelling) (l .low) (l .high)
+    → Here text at k → k < length (laterFields text) → Judged st text k i g
+unfolding readAt readField
+judged st text at k i {s} {turn} {l} {g} se te le ge h kl = record {
+  after = λ {x} go {r} e d.
+      rw (← te, ← se, ← le, ← here-field text at k h kl)
+      (d ∙ ap (λ (y : Field). afterField st y go) (sym e ∙ ge) ∙ judge-after st (l .spelling) (l .low) (l .high) (nextAt text at) 0 (saidBy (l .spelling) (fieldAt text at)) go);
+  more = λ {n} {next} e. here-more text at k next h kl (read-next text at (l .spelling) (l .low) (l .high) n next (sym ge ∙ e));
+}
 
 -- THE CERTIFICATE
-certificate-wrong : (text : List ℕ) (at : ℕ) → certificateAt text at ≡ NoCertificate → isCertificate (fieldAt text at) ≡ false
-unfolding certificateAt
-certificate-wrong text at = by-test (isCertificate (fieldAt text at)) (λ t. rw t (λ e. absurd-by (cc))) (λ t. rw t (λ e. refl))
-
-module _ (st : Settling) (text : List ℕ) (at : ℕ) (c : Found) (ce : c ≡ certificateAt text at) (four : length (laterFields text) ≡ 4) (h : Here text at 1) where
+module _ (text : List ℕ) (at : ℕ) (c : Found) (ce : c ≡ certificateAt text at) (four : length (laterFields text) ≡ 4) (h : Here text at 1) where
   field-is : fieldAt text at ≡ getD (laterFields text) 1 []
   field-is = here-field text at 1 h (omega arith)
 
@@ -174,88 +139,78 @@ module _ (st : Settling) (text : List ℕ) (at : ℕ) (c : Found) (ce : c ≡ ce
     pub short : end - at ≤ 16
     pub bytes : take (end - at) (drop at text) ≡ getD (laterFields text) 1 []
     pub next : Here text (end + 1) 2
+    pub shown : isCertificate (getD (laterFields text) 1 []) ≡ true
 
-  module _ (end : ℕ) (e : c ≡ At end) where
-    only : (isCertificate (fieldAt text at) ≡ true) × (end ≡ at + length (fieldAt text at))
-    only = certificate-only text at end (sym ce ∙ e)
+  pub cut : (end : ℕ) → c ≡ At end → Cut end
+  cut end e =
+      let o = certificate-only text at end (sym ce ∙ e) in
+      let n = certificate-long (fieldAt text at) (o .0) in
+      let a = until-short 9 (drop at text) in
+      let b = length-drop at text in
+      let z = o .1 in
+      let q : end - at ≡ length (fieldAt text at) = omega arith in
+      record {
+        after = omega arith;
+        inside = omega arith;
+        short = omega arith;
+        bytes = rw q (until-take 9 (drop at text) ∙ field-is);
+        next = here-more text at 1 (end + 1) h (omega arith) (omega arith);
+        shown = rw (← field-is) (o .0);
+      }
 
-    pub cut : Cut end
-    cut =
-        let o = only in
-        let n = certificate-long (fieldAt text at) (o .0) in
-        let a = until-short 9 (drop at text) in
-        let b = length-drop at text in
-        let z = o .1 in
-        let q : end - at ≡ length (fieldAt text at) = omega arith in
-        record {
-          after = omega arith;
-          inside = omega arith;
-          short = omega arith;
-          bytes = rw q (until-take 9 (drop at text) ∙ field-is);
-          next = here-more text at 1 (end + 1) h (omega arith) (omega arith);
-        }
+  pub not-cut : c ≡ NoCertificate → isCertificate (getD (laterFields text) 1 []) ≡ false
+  unfolding certificateAt
+  not-cut e = rw (← field-is) (by-test (isCertificate (fieldAt text at)) (λ t. absurd-by (let z : NoCertificate ≡ certificateAt text at = sym e ∙ ce in let y = rw t at z in cc)) (λ t. t))
 
-    pub certificate-taken : (r : Settled) → r ≡ settleFactor st (laterFields text) → r ≡ settleCertificate st (laterFields text)
-    unfolding settleCertificate pick
-    certificate-taken r d = rw (← field-is, only .0) d
-
-  pub certificate-refused : (r : Settled) → c ≡ NoCertificate → r ≡ stopped st NoForm → r ≡ settleCertificate st (laterFields text)
-  unfolding settleCertificate pick
-  certificate-refused r e d = rw (← field-is, certificate-wrong text at (sym ce ∙ e)) d
-
--- `take_weight`
+-- THE WEIGHT
 pub weight-kept : (st : Settling) (text : List ℕ) (turn : ℕ) (c : Certificate) (factor n : ℕ) (x : Settings) (r : Settled) → turn ≡ turnOf st → c ≡ certificateOf (getD (laterFields text) 1 [])
     → x ≡ runWith (st .settings) turn c factor n → r ≡ kept st x
     → r ≡ kept st (runWith (st .settings) (turnOf st) (certificateOf (getD (laterFields text) 1 [])) factor n)
 weight-kept st text turn c factor n x r te ce xe h = rw (← te, ← ce, ← xe) h
 
--- `take_run`
-module _ (st : Settling) (text : List ℕ) (fields : ℕ) (fe : fields ≡ length (laterFields text)) (r : Settled) where
-  pub run-fields : (fields ≡ 4 → ⊥) → r ≡ stopped st Fields → r ≡ settleRun st (laterFields text)
-  unfolding settleRun pick
-  run-fields d e = rw (ne-eqb (length (laterFields text)) 4 (λ q. d (fe ∙ q))) e
-
-  pub run-read : fields ≡ 4 → r ≡ afterField st (readBy (limitOf Run 0 anyGroup (turnOf st)) (getD (laterFields text) 0 [])) (λ run. settleCertificate st (laterFields text)) → r ≡ settleRun st (laterFields text)
-  unfolding settleRun pick
-  run-read d e = rw (eq-eqb (length (laterFields text)) 4 (sym fe ∙ d)) e
-
--- `take_text`
-module _ (st : Settling) (text : List ℕ) (r : Settled) where
-  pub text-sizes : st .line ≡ 1 → r ≡ expecting st Sizes text (settlePlain st Sizes (withSizes (st .settings)) (laterFields text)) → r ≡ settleText st text
+-- A LINE'S TEXT, by the line that it is
+module _ (st : Settling) (text : List ℕ) where
+  pub sizes-text : st .line ≡ 1 → settleText st text ≡ expecting st Sizes text (settlePlain st Sizes (withSizes (st .settings)) (laterFields text))
   unfolding settleText pick
-  text-sizes a e = rw (eq-eqb (st .line) 1 a) e
+  sizes-text e = rw (eq-eqb (st .line) 1 e)
 
-  module _ (a : st .line ≡ 1 → ⊥) where
-    pub text-filter : st .line ≡ 2 → r ≡ expecting st Filter text (settlePlain st Filter (withFilter (st .settings)) (laterFields text)) → r ≡ settleText st text
+  pub filter-text : st .line ≡ 2 → settleText st text ≡ expecting st Filter text (settlePlain st Filter (withFilter (st .settings)) (laterFields text))
+  unfolding settleText pick
+  filter-text e = rw (ne-eqb (st .line) 1 (λ z. absurd (omega arith)), eq-eqb (st .line) 2 e)
+
+  module _ (n₁ : st .line ≡ 1 → ⊥) (n₂ : st .line ≡ 2 → ⊥) where
+    pub run-text : turnOf st < runsOf (st .settings .numbers .group .m) → settleText st text ≡ expecting st Run text (settleRun st (laterFields text))
     unfolding settleText pick
-    text-filter b e = rw (ne-eqb (st .line) 1 a, eq-eqb (st .line) 2 b) e
+    run-text h = rw (ne-eqb (st .line) 1 n₁, ne-eqb (st .line) 2 n₂, lt-ltb (turnOf st) (runsOf (st .settings .numbers .group .m)) h)
 
-    module _ (b : st .line ≡ 2 → ⊥) (turn runs : ℕ) (te : turn ≡ st .line - 3) (re : runs ≡ runsOf (st .settings .numbers .group .m)) where
-      pub text-over : runs ≤ turn → r ≡ stopped st NoKind → r ≡ settleText st text
-      unfolding settleText pick
-      text-over h e = rw (ne-eqb (st .line) 1 a, ne-eqb (st .line) 2 b, le-ltb (turnOf st) (runsOf (st .settings .numbers .group .m)) (omega arith)) e
+    pub over-text : runsOf (st .settings .numbers .group .m) ≤ turnOf st → settleText st text ≡ stopped st NoKind
+    unfolding settleText pick
+    over-text h = rw (ne-eqb (st .line) 1 n₁, ne-eqb (st .line) 2 n₂, le-ltb (turnOf st) (runsOf (st .settings .numbers .group .m)) h)
 
-      pub text-run : turn < runs → r ≡ expecting st Run text (settleRun st (laterFields text)) → r ≡ settleText st text
-      unfolding settleText pick
-      text-run h e = rw (ne-eqb (st .line) 1 a, ne-eqb (st .line) 2 b, lt-ltb (turnOf st) (runsOf (st .settings .numbers .group .m)) (omega arith)) e
+-- A LINE, by its length and its line feed
+module _ (line : List ℕ) (c : Scan) (ce : c ≡ scanned line) where
+  pub scan-open : (c .feed + 1 ≡ length line → ⊥) → endedOnce line ≡ false
+  unfolding scanned
+  scan-open d = ne-eqb (length (until 10 line) + 1) (length line) (rw ce at d)
 
--- `take`
-module _ (st : Settling) (line : List ℕ) (r : Settled) where
-  pub line-over : 600 < length line → r ≡ stopped st Long → r ≡ settleLine st line
+  pub scan-ended : c .feed + 1 ≡ length line → endedOnce line ≡ true
+  unfolding scanned
+  scan-ended d = eq-eqb (length (until 10 line) + 1) (length line) (rw ce at d)
+
+  pub scan-text : until 10 line ≡ take (c .feed) line
+  unfolding scanned
+  scan-text = rw ce (sym (until-take 10 line))
+
+module _ (st : Settling) (line : List ℕ) where
+  pub line-over : 600 < length line → settleLine st line ≡ stopped st Long
   unfolding settleLine pick
-  line-over h e = rw (lt-leb (length line) 600 h) e
+  line-over h = rw (lt-leb (length line) 600 h)
 
-  module _ (l : length line ≤ 600) (c : Scan) (ce : c ≡ scanned line) where
-    feed-is : c .feed ≡ length (until 10 line)
-    unfolding scanned
-    feed-is = rw ce
-
-    pub line-open : (c .feed + 1 ≡ length line → ⊥) → r ≡ stopped st Unended → r ≡ settleLine st line
+  module _ (l : length line ≤ 600) where
+    pub line-open : endedOnce line ≡ false → settleLine st line ≡ stopped st Unended
     unfolding settleLine pick
-    line-open d e = rw (le-leb (length line) 600 l, ← feed-is, ne-eqb (c .feed + 1) (length line) d) e
+    line-open e = rw (le-leb (length line) 600 l, e)
 
-    pub line-taken : c .feed + 1 ≡ length line → r ≡ settleText st (take (c .feed) line) → r ≡ settleLine st line
+    pub line-text : endedOnce line ≡ true → settleLine st line ≡ settleText st (until 10 line)
     unfolding settleLine pick
-    line-taken d e =
-        rw (le-leb (length line) 600 l, eq-eqb (length (until 10 line) + 1) (length line) (ap (λ (n : ℕ). n + 1) (sym feed-is) ∙ d))
-        (e ∙ ap (settleText st) (ap (λ (n : ℕ). take n line) feed-is ∙ until-take 10 line))
+    line-text e = rw (le-leb (length line) 600 l, e)

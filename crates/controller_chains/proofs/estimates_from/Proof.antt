@@ -13,5 +13,5 @@ abbrev μ-loop : tie.MeasureT-loop
 μ-loop x variance estimates₀ i₀ estimates i = 3 - i
 
 pub estimates-from-spec : {M : Type 1} → statement M
-estimates-from-spec = tie.close (tie.spec Inv-loop μ-loop (λ c. search needs) (search needs) (search needs) (search needs) (search needs) (search needs) (search needs)
-    (search needs) (λ c. search needs) (λ c. search needs) (λ c. search needs))
+estimates-from-spec = tie.close (tie.spec Inv-loop μ-loop (λ c. search needs) (λ c. search needs) (search needs) (search needs) (search needs) (search needs)
+    (search needs) (search needs) (λ c. search needs) (λ c. search needs) (λ c. search needs))

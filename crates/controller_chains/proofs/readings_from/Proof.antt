@@ -13,5 +13,5 @@ abbrev μ-loop : tie.MeasureT-loop
 μ-loop mask first readings₀ i₀ readings i = 16 - i
 
 pub readings-from-spec : {M : Type 1} → statement M
-readings-from-spec = tie.close (tie.spec Inv-loop μ-loop (λ c. search needs) (search needs) (search needs) (search needs) (search needs) (search needs) (search needs)
-    (search needs) (search needs) (λ c. search needs) (λ c. search needs) (λ c. search needs))
+readings-from-spec = tie.close (tie.spec Inv-loop μ-loop (λ c. search needs) (search needs) (λ c. search needs) (search needs) (search needs) (search needs)
+    (search needs) (search needs) (search needs) (λ c. search needs) (λ c. search needs) (λ c. search needs))

@@ -11,6 +11,6 @@ abbrev μ-loop : tie.MeasureT-loop
 μ-loop readings estimates targets i₀ t9 i = 16 - i
 
 pub tell-runs-spec : {M : Type 1} → statement M
-tell-runs-spec = tie.close (tie.spec Inv-loop μ-loop (λ c. search needs) (search needs) (search needs) (search needs) (search needs) (search needs) (search needs)
+tell-runs-spec = tie.close (tie.spec Inv-loop μ-loop (λ c. search needs) (search needs) (search needs) (search needs) (search needs) (λ c. search needs) (search needs)
     (search needs) (search needs) (search needs) (search needs) (search needs) (search needs) (λ c. search needs) (λ c. search needs) (λ c. search needs) (search needs)
     (λ c. search needs))

@@ -5,14 +5,7 @@ use borrow.Author.Needs.{needs}
 use Rattle.lines.proofs.setting.is_setting.Statement.{statement}
 use Rattle.lines.proofs.setting.is_setting.Tie as tie
 
-returns : tie.Need-returns
-returns c = setting-none (c .before .before .args .settings) (c .before .before .args .k) _ (c .before .in-range .ensures) (c .if1 .taken)
-
-add-result : tie.Need-add-result
-add-result c = omega (arith, setting-runs (c .before .before .args .settings) (c .before .before .args .k) _ (c .before .in-range .ensures) (c .if1 .left))
-
-returns-2 : tie.Need-returns-2
-returns-2 c = setting-some (c .before .before .args .settings) (c .before .before .args .k) _ (c .before .in-range .ensures) (c .if1 .left)
-
 pub is-setting-spec : {M : Type 1} → statement M
-is-setting-spec = tie.close (tie.spec (search needs) returns add-result returns-2)
+is-setting-spec = tie.close (tie.spec (search needs) (λ c. let z = c .before in setting-none (z .before .args .settings) _ _ (z .in-range .ensures) (c .if1 .taken))
+    (λ c. let z = c .before in omega (arith, setting-runs (z .before .args .settings) 0 _ (z .in-range .ensures) (c .if1 .left)))
+    (λ c. let z = c .before in setting-some (z .before .args .settings) _ _ (z .in-range .ensures) (c .if1 .left)))

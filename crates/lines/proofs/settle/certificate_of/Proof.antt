@@ -6,7 +6,6 @@ use borrow.Author.Needs.{needs}
 use lib.ListN.{getD, take, drop}
 use Rattle.lines.proofs.Columns.{Filling, fill-start, fill-more, fill-done}
 use Rattle.lines.proofs.Settlings.{byte-is, bytes-left, certificate-made}
-use native.Mathlib.Omega.{arith}
 use Rattle.lines.proofs.settle.certificate_of.Statement.{statement}
 use Rattle.lines.proofs.settle.certificate_of.Tie as tie
 

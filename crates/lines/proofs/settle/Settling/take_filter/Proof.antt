@@ -1,35 +1,32 @@
 -- `Settling::take_filter` meets its contract. Assumes nothing.
-use mathlib.Core.Path.{refl}
+use mathlib.Core.Path.{refl, ap, _∙_}
+use Rattle.units.proofs.Picked.{by-no}
 use Rattle.lines.specs.declared.kind.Kind.the-variants.{Filter}
-use Rattle.lines.specs.Settling.{withFilter}
-use Rattle.lines.proofs.Settlings.{unexpected, expected, expected-short, plain-kept, plain-stop, filter-are}
+use Rattle.lines.specs.Settling.{kept, withFilter}
+use Rattle.lines.proofs.Settlings.{was-kind, was-not, kind-start, plain-got, filter-are}
 use Rattle.lines.proofs.Openings.{none-read, fields-are}
-use Rattle.lines.proofs.Stages.{here-start}
 use borrow.Author.Needs.{needs}
 use Rattle.lines.proofs.settle.Settling.take_filter.Statement.{statement}
 use Rattle.lines.proofs.settle.Settling.take_filter.Tie as tie
 
-returns : tie.Need-returns
-returns c = let a = c .before .before .before .before .args in unexpected (a .self) Filter (a .text .now) _ _ _ (c .before .before .is-kind .ensures) (c .before .if1 .taken) (c .stop .ensures)
-
 read-values-requires : tie.Need-read-values-requires
-read-values-requires c κs = let z = c .before .before .before .before .before .before in (fields-are _ _ (z .pre .1), here-start _ (expected-short Filter (z .args .text .now) _ (c .before .before .before .before .is-kind .ensures) (c .before .before .before .if1 .left)), none-read, refl)
+read-values-requires c κs =
+    let l = c .before .before .before in let z = l .before .before .before in
+    (fields-are _ _ (z .pre .1), kind-start Filter _ (was-kind (l .before .is-kind .ensures) (l .if1 .left)), none-read, refl)
 
 returns-2 : tie.Need-returns-2
 returns-2 c =
-    let a = c .before .before .before .before .before .before .before .before .before .before .before .args in let f = c .before .before .before .before .read-values .ensures in
-    let t = c .before .before .enum-told .given .1 in
-    expected (a .self) Filter (a .text .now) _ _ _ (c .before .before .before .before .before .before .before .before .before .is-kind .ensures)
-    (c .before .before .before .before .before .before .before .before .if1 .left)
-    (plain-kept (a .self) Filter _ (c .before .before .before .before .before .before .any-group .ensures) (a .text .now) _ _ f (withFilter (a .self .settings)) _ _ t (filter-are Filter _ (a .text .now) _ _ f t (a .self .settings) _ (c .before .with-filter .ensures)) (c .keep .ensures))
+    let k = c .before .before .before .before in let l = k .before .before .before .before in let s = l .before .before .before .args .self in let t = c .before .before .enum-told .given .1 in
+    plain-got s Filter _ (was-kind (l .before .is-kind .ensures) (l .if1 .left)) (k .before .before .any-group .ensures) (k .read-values .ensures) (withFilter (s .settings)) t
+    (c .keep .ensures ∙ ap (kept s) (filter-are _ _ (k .read-values .ensures .rest t) (s .settings) (c .before .with-filter .ensures)))
 
 returns-3 : tie.Need-returns-3
 returns-3 c =
-    let a = c .before .before .before .before .before .before .before .before .before .before .before .args in
-    expected (a .self) Filter (a .text .now) _ _ _ (c .before .before .before .before .before .before .before .before .before .is-kind .ensures)
-    (c .before .before .before .before .before .before .before .before .if1 .left)
-    (plain-stop (a .self) Filter _ (c .before .before .before .before .before .before .any-group .ensures) (a .text .now) _ _ (c .before .before .before .before .read-values .ensures) (withFilter (a .self .settings)) _ _ (c .before .before .why .given .1) (c .stop2 .ensures))
+    let k = c .before .before .before .before in let l = k .before .before .before .before in let s = l .before .before .before .args .self in
+    plain-got s Filter _ (was-kind (l .before .is-kind .ensures) (l .if1 .left)) (k .before .before .any-group .ensures) (k .read-values .ensures) (withFilter (s .settings))
+    (c .before .before .why .given .1) (c .stop2 .ensures)
 
 pub take-filter-spec : {M : Type 1} → statement M
-take-filter-spec = tie.close (tie.spec (search needs) (search needs) returns (search needs) read-values-requires (search needs) (search needs) (search needs) (search needs) (search needs)
+take-filter-spec = tie.close (tie.spec (search needs) (search needs) (λ c. by-no _ (was-not (c .before .before .is-kind .ensures) (c .before .if1 .taken)) (c .stop .ensures)) (search needs)
+    read-values-requires (search needs) (search needs) (search needs) (search needs) (search needs)
     (λ c κs. c .before .before .before .before .before .before .before .before .before .before .pre .0) (search needs) (search needs) returns-2 returns-3)
