@@ -74,11 +74,11 @@ module _ (meters : Meters) (w : World) (i : ℕ) where
   unfolding plain fairly
   given h e =
       record {
-        one-reading = λ l n r q. eqb-true r (meters l n) (at q);
+        one-reading = λ l n r q. let e = eqb-true r (meters l n) (at q) in cc;
         not-made-up = λ t. absurd (unfair h t e);
-        own-number = λ o l q. eqb-true o i (and-left (eqb o i) _ (at q));
+        own-number = λ o l q. let e = eqb-true o i (and-left (eqb o i) _ (at q)) in cc;
         stored-first = λ l q. marked-there i l (w .stored) (at q);
-        highest-floor = λ o l q label m. highest-above i l (w .confirmed) (and-right (eqb o i) _ (at q)) label m;
+        highest-floor = λ o l q label m. omega (arith, highest-above i l (w .confirmed) (and-right (eqb o i) _ (at q)) label m);
       }
     where
       at : {k : Head} → h ≡ k → fairly meters w i k ≡ true
