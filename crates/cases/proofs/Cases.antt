@@ -18,7 +18,7 @@ use Rattle.floats.proofs.Places.{same-estimate-is}
 use Rattle.floats.proofs.Computes.{float-computes, range-computes}
 use Rattle.filter.specs.Run.{measured}
 use Rattle.filter.proofs.Computes.{run-computes}
-use Rattle.cases.specs.Table.{RunCase, Part, chosen, left, Row, judged, run, votesOf, numbered, spelt, carried, Measures, Holds, Each, table}
+use Rattle.cases.specs.Table.{RunCase, Part, chosen, left, Row, judged, run, votesOf, numbered, spelt, newEstimate, Measures, Holds, Each, table}
 
 -- ---- the test
 
@@ -38,7 +38,7 @@ measures c (chosen z) = sameFloat (measured (c .raw) (c .factor)) (ofWhole z)
 measures c left = true
 
 leaves : RunCase → Bool
-leaves c = sameEstimate (carried c) (numbered (c .newX) (c .newVariance)) && sameEstimate (carried c) (spelt (c .xBits) (c .varianceBits))
+leaves c = sameEstimate (newEstimate c) (numbered (c .newX) (c .newVariance)) && sameEstimate (newEstimate c) (spelt (c .xBits) (c .varianceBits))
 
 test : Row → Bool
 test (judged c) = sameDecision (decision (votesOf c)) (c .verdict)
@@ -67,13 +67,13 @@ unfolding measures
 measures-is c (chosen z) h = same-is (measured (c .raw) (c .factor)) (ofWhole z) h
 measures-is c left h = tt
 
-leaves-number : (c : RunCase) → leaves c ≡ true → carried c ≡ numbered (c .newX) (c .newVariance)
+leaves-number : (c : RunCase) → leaves c ≡ true → newEstimate c ≡ numbered (c .newX) (c .newVariance)
 unfolding leaves
-leaves-number c h = same-estimate-is (carried c) (numbered (c .newX) (c .newVariance)) (and-left _ (sameEstimate (carried c) (spelt (c .xBits) (c .varianceBits))) h)
+leaves-number c h = same-estimate-is (newEstimate c) (numbered (c .newX) (c .newVariance)) (and-left _ (sameEstimate (newEstimate c) (spelt (c .xBits) (c .varianceBits))) h)
 
-leaves-bits : (c : RunCase) → leaves c ≡ true → carried c ≡ spelt (c .xBits) (c .varianceBits)
+leaves-bits : (c : RunCase) → leaves c ≡ true → newEstimate c ≡ spelt (c .xBits) (c .varianceBits)
 unfolding leaves
-leaves-bits c h = same-estimate-is (carried c) (spelt (c .xBits) (c .varianceBits)) (and-right (sameEstimate (carried c) (numbered (c .newX) (c .newVariance))) _ h)
+leaves-bits c h = same-estimate-is (newEstimate c) (spelt (c .xBits) (c .varianceBits)) (and-right (sameEstimate (newEstimate c) (numbered (c .newX) (c .newVariance))) _ h)
 
 holds : (r : Row) → test r ≡ true → Holds r
 unfolding test

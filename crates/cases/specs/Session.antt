@@ -10,6 +10,7 @@ use Rattle.units.specs.declared.settings.Numbers.{Numbers}
 use Rattle.floats.specs.Bits.{ofWhole, nought}
 use Rattle.floats.specs.Ranges.{blank}
 use Rattle.filter.specs.declared.compute.Computed.{Computed}
+use Rattle.cases.specs.Table.{spelt}
 
 -- two runs, and nothing at the other places
 abbrev pub two : {A : Type 0} → A → A → A → List A
@@ -40,14 +41,10 @@ base = record { 0 = 0 }
 abbrev pub mask : ℕ
 mask = 3
 
--- an estimate by its bits
-abbrev pub carried : ℕ → ℕ → Estimate
-carried x variance = record { x = ofBits binary64 x; variance = ofBits binary64 variance }
-
 -- "U 0 1 40E8876000000000 4052C00000000000 40E84CA000000000 4052C00000000000" and the targets of S
 abbrev pub issued : Computed
 issued =
     record {
-      state = two (carried 0x40E8_8760_0000_0000 0x4052_C000_0000_0000) (carried 0x40E8_4CA0_0000_0000 0x4052_C000_0000_0000) blank;
+      state = two (spelt 0x40E8_8760_0000_0000 0x4052_C000_0000_0000) (spelt 0x40E8_4CA0_0000_0000 0x4052_C000_0000_0000) blank;
       targets = two (ofBits binary64 0x40F2_4F80_0000_0000) (ofBits binary64 0x40D8_6A00_0000_0000) nought;
     }

@@ -50,8 +50,8 @@ pub data Row : Type 0 where
 
 -- ---- a case of the vote
 
-abbrev pub inSeat : Ballot → Seat
-inSeat b = record { ballot = b }
+abbrev pub seatWith : Ballot → Seat
+seatWith b = record { ballot = b }
 
 -- the votes of a case, in a group of as many controllers
 abbrev pub votesOf : VoteCase → Votes
@@ -59,7 +59,7 @@ votesOf c =
     record {
       group = record { g = length (c .votes); m = c .m };
       label = record { 0 = c .label };
-      seats = take 7 (map inSeat (c .votes) ++ replicate 7 (inSeat Missing));
+      seats = take 7 (map seatWith (c .votes) ++ replicate 7 (seatWith Missing));
     }
 
 -- ---- a case of computing
@@ -68,6 +68,7 @@ abbrev pub isChosen : Part → Bool
 isChosen (chosen z) = true
 isChosen left = false
 
+-- an estimate by its numbers, and by its bits
 abbrev pub numbered : ℕ → ℕ → Estimate
 numbered x variance = record { x = ofWhole x; variance = ofWhole variance }
 
@@ -75,8 +76,8 @@ abbrev pub spelt : ℕ → ℕ → Estimate
 spelt x variance = record { x = ofBits binary64 x; variance = ofBits binary64 variance }
 
 -- what the filter's definitions leave of the run
-abbrev pub carried : RunCase → Estimate
-carried c =
+abbrev pub newEstimate : RunCase → Estimate
+newEstimate c =
     estimateAfter (numbered (c .x) (c .variance))
     (outcome (numbered (c .x) (c .variance)) (c .n) (c .q) (c .r) (isChosen (c .part)) (c .raw) (c .factor))
 
@@ -93,8 +94,8 @@ abbrev pub Holds : Row → Type 0
 Holds (judged c) = Answers (votesOf c) (c .verdict)
 Holds (run c) =
     Measures c (c .part)
-    × (carried c ≡ numbered (c .newX) (c .newVariance))
-    × (carried c ≡ spelt (c .xBits) (c .varianceBits))
+    × (newEstimate c ≡ numbered (c .newX) (c .newVariance))
+    × (newEstimate c ≡ spelt (c .xBits) (c .varianceBits))
 
 abbrev pub Each : List Row → Type 0
 Each [] = Unit {0}

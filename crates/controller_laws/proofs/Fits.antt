@@ -33,7 +33,7 @@ use Rattle.vote.specs.declared.votes.Ballot.the-variants.{Cast}
 use Rattle.vote.specs.declared.votes.Seat.{Seat}
 use Rattle.vote.specs.Digest.{legal}
 use Rattle.vote.specs.Vote.{nobody, seated}
-use Rattle.vote.proofs.InRange.{seats-length, seated-fit, unseated-fit}
+use Rattle.vote.proofs.InRange.{legal-range, legal-made, seats-length, seated-fit, unseated-fit}
 use Rattle.filter.proofs.Laws.{state-range}
 use Rattle.message.specs.declared.head.Head.{Head}
 use Rattle.message.specs.declared.head.Head.the-variants.{Reading, Update, Reply}
@@ -63,7 +63,7 @@ use Rattle.controller_laws.specs.Ways.Leads.{refused, unchanged, begins,
 use Rattle.controller_laws.specs.Ways.Goes.{out, led}
 use Rattle.controller_laws.proofs.Held.{more-fit, merged-fit}
 use Rattle.controller_laws.proofs.Masks.{run-bit-low, run-bit-below}
-use Rattle.controller_laws.proofs.Valid.{five, sized, first-high, legal-facts, legal-made, unseated, Own, phase-legal, phase-own, phase-made, Valid, valid-facts, valid-made}
+use Rattle.controller_laws.proofs.Valid.{five, sized, first-high, below-end, unseated, Own, phase-legal, phase-own, phase-made, Valid, valid-facts, valid-made}
 use Rattle.controller_laws.proofs.Ways.{goes}
 
 -- ---- a start
@@ -160,15 +160,15 @@ module _ (s : Numbers) (c : Controller) (fit : numbersFit s ≡ true) (v : Valid
         votes = unseated-fit (s .group) label;
         phase =
             phase-made (briefOf (begun c label run raw)) m _ Collecting
-            (λ k. legal-made m label (record { mask = runBit run; state = c .state }) (z .m-high)
-            (record { some-run = run-bit-low run r′; own-runs = run-bit-below run m r (z .m-high); older = l }))
+            (λ k. legal-made m label (record { mask = runBit run; state = c .state })
+            (record { runs = z .m-high; some-run = run-bit-low run r′; own-runs = below-end m (runBit run) (z .m-high) (run-bit-below run m r (z .m-high)); older = l }))
             (unseated (c .own) o);
       }
 
   holds-valid : (held : ℕ) (readings : List ℕ) → c .phase ≡ Collecting → c .held ≤ held → held < maskEnd m → readingsFit held readings ≡ true
       → Valid s (record { own = c .own; phase = c .phase; label = c .label; state = c .state; estimates = c .estimates; held = held; readings = readings; votes = c .votes })
   holds-valid held readings e low high f =
-      let k = legal-facts m (c .label) (ownDigest (briefOf c)) (own-legal (rw e tt)) in
+      let k = legal-range m (c .label) (ownDigest (briefOf c)) (own-legal (rw e tt)) in
       record {
         own = v .own;
         label = v .label;
@@ -179,8 +179,8 @@ module _ (s : Numbers) (c : Controller) (fit : numbersFit s ≡ true) (v : Valid
         votes = v .votes;
         phase =
             phase-made (record { own = c .own; phase = c .phase; label = c .label; state = c .state; held = held }) m (ballotAt c (c .own)) (c .phase)
-            (λ b. legal-made m (c .label) (record { mask = held; state = c .state }) (sized s fit .m-high)
-            (record { some-run = omega (arith, k .some-run); own-runs = high; older = k .older }))
+            (λ b. legal-made m (c .label) (record { mask = held; state = c .state })
+            (record { runs = k .runs; some-run = omega (arith, k .some-run); own-runs = below-end m held (k .runs) high; older = k .older }))
             (own-vote (c .phase) refl);
       }
 
@@ -220,8 +220,8 @@ module _ (s : Numbers) (c : Controller) (fit : numbersFit s ≡ true) (v : Valid
     where
       newer : Busy phase → legal m (c .label) (record { mask = c .held; state = theirs }) ≡ true
       newer k =
-          let q = legal-facts m (c .label) (ownDigest (briefOf c)) (own-legal (busy phase (b k .0) k)) in
-          legal-made m (c .label) (record { mask = c .held; state = theirs }) (sized s fit .m-high) (record { some-run = q .some-run; own-runs = q .own-runs; older = b k .1 })
+          let q = legal-range m (c .label) (ownDigest (briefOf c)) (own-legal (busy phase (b k .0) k)) in
+          legal-made m (c .label) (record { mask = c .held; state = theirs }) (record { runs = q .runs; some-run = q .some-run; own-runs = q .own-runs; older = b k .1 })
 
       still : (p : Phase) → (Busy p → (c .phase ≡ p) × (theirs .0 < c .label .0)) → Own p (ballotAt c (c .own))
       still Idle k = tt

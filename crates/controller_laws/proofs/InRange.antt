@@ -44,7 +44,7 @@ use Rattle.controller_laws.specs.Reasons.{Refuses}
 use Rattle.controller_laws.specs.Reasons.Refuses.{is-unknown, is-own, is-late, is-other, is-closed, is-clash}
 use Rattle.controller_laws.proofs.Refusals.{refused-for}
 use Rattle.vote.proofs.InRange.{legal-exact, seats-length, seats-place, seats-made}
-use Rattle.controller_laws.proofs.Valid.{sized, legal-facts, legal-made, Own, phase-legal, phase-own, phase-made, valid-facts, valid-made}
+use Rattle.controller_laws.proofs.Valid.{sized, below-end, Own, phase-legal, phase-own, phase-made, valid-facts, valid-made}
 
 -- another number than 6
 no-range : {why : Refusal} → eqb (numberOf why) 6 ≡ false → why ≡ Range → ⊥
@@ -116,13 +116,13 @@ module _ (s : Numbers) (c : Controller) (fit : numbersFit s ≡ true) where
         seven = seats-length (s .group) (c .label) (c .votes) (v .votes);
         estimate = λ i k. let e = state-run m (c .estimates) i (v .estimates) k (omega (arith, small)) in (estimate-x _ e, estimate-variance _ e);
         no-estimate = λ i k l. state-blank m (c .estimates) i (v .estimates) k l;
-        held = subst (λ (n : ℕ). c .held < n) (mask-end-is m small) (v .held);
+        held = below-end m (c .held) small (v .held);
         reading = λ i k e. place-held (inMask (c .held) i) _ e (readings-place (c .held) (c .readings) (v .readings) i k);
         no-reading = λ i k e. place-bare (inMask (c .held) i) _ e (readings-place (c .held) (c .readings) (v .readings) i k);
         vote = λ i d k e.
             let q = seat-cast (ltb i (s .group .g)) m (c .label) (ballotAt c i) d e (seats-place (s .group) (c .label) (c .votes) (v .votes) i k) in
             (ltb-true _ _ (q .0), legal-exact m (c .label) d .0 (q .1));
-        busy = λ b. let q = legal-facts m (c .label) (ownDigest (briefOf c)) (phase-legal (briefOf c) m (ballotAt c (c .own)) (c .phase) (v .phase) b) in (q .some-run, q .older);
+        busy = λ b. let q = legal-exact m (c .label) (ownDigest (briefOf c)) .0 (phase-legal (briefOf c) m (ballotAt c (c .own)) (c .phase) (v .phase) b) in (q .some-run, q .older);
         unvoted = λ e. own-unvoted (c .phase) _ (phase-own (briefOf c) m (ballotAt c (c .own)) (c .phase) (v .phase)) e;
         voted = λ e. own-voted (c .phase) _ (phase-own (briefOf c) m (ballotAt c (c .own)) (c .phase) (v .phase)) e;
       }
@@ -143,7 +143,7 @@ module _ (s : Numbers) (c : Controller) (fit : numbersFit s ≡ true) where
             (λ i k. seat-made (ltb i (s .group .g)) m (c .label) (ballotAt c i) (λ d e. let z = q .vote i d k e in (lt-ltb _ _ (z .0), legal-exact m (c .label) d .1 (z .1))));
         phase =
             phase-made (briefOf c) m (ballotAt c (c .own)) (c .phase)
-            (λ b. let z = q .busy b in legal-made m (c .label) (ownDigest (briefOf c)) small (record { some-run = z .0; own-runs = high; older = z .1 }))
+            (λ b. let z = q .busy b in legal-exact m (c .label) (ownDigest (briefOf c)) .1 (record { runs = small; some-run = z .0; own-runs = q .held; older = z .1 }))
             (own-made (c .phase) (ballotAt c (c .own)) (q .unvoted) (q .voted));
       })
     where

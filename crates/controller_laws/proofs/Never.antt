@@ -1,21 +1,19 @@
 -- 14 IS NEVER GIVEN: what is decided is legal, so its state label lies below the label. Document 01 lists the number, and the step has its case. Assumes nothing.
 use Prim.Native.Nat.{ℕ}
 use mathlib.Core.Path.{_≡_, refl, sym, ap, _∙_}
-use mathlib.Core.Bool.{true, false, true≢false, _&&_}
-use lib.Dec.{leb, eqb}
+use mathlib.Core.Bool.{true, false, true≢false}
+use lib.Dec.{eqb}
+use borrow.Author.Tests.{lt-ltb}
 use Rattle.units.specs.declared.refusal.Refusal.the-variants.{Range, Undecided, Lacking, Behind}
 use Rattle.units.specs.declared.refusal.Verdict.{Verdict}
 use Rattle.units.specs.declared.refusal.Verdict.the-variants.{Taken, Refused as Denied}
 use Rattle.units.specs.declared.settings.Numbers.{Numbers}
 use Rattle.units.specs.Labels.{before}
-use Rattle.units.specs.Limits.{runsTop}
-use Rattle.units.specs.Mask.{maskFits}
 use Rattle.units.specs.Refusal.{verdictNumber}
-use Rattle.units.proofs.Every.{and-right}
 use Rattle.vote.specs.declared.digest.Digest.{Digest}
 use Rattle.vote.specs.declared.judge.Decision.the-variants.{Decided}
-use Rattle.vote.specs.Digest.{legal}
 use Rattle.vote.proofs.Decided.{decided-legal}
+use Rattle.vote.proofs.InRange.{legal-range}
 use Rattle.message.specs.declared.head.Head.{Head}
 use Rattle.message.specs.declared.value.Message.{Message}
 use Rattle.plan.specs.declared.planned.Effect.{Effect}
@@ -43,8 +41,7 @@ issue-calm e h (One one) = refl
 module _ (s : Numbers) (c : Controller) (a : Message) where
   -- what is decided lies before the round
   pub decided-before : (seat : ℕ) (digest chosen : Digest) → decisionWith s c seat digest ≡ Decided chosen → before (chosen .state) (c .label) ≡ true
-  unfolding legal
-  decided-before seat digest chosen d = and-right (leb (s .group .m) runsTop && maskFits (s .group .m) (chosen .mask)) _ (decided-legal (votesWith s c seat digest) chosen d)
+  decided-before seat digest chosen d = lt-ltb _ _ (legal-range (s .group .m) (c .label) chosen (decided-legal (votesWith s c seat digest) chosen d) .older)
 
   not-behind : {h : Head} {p : Plan} → Leads s c a h p → p .verdict ≡ Denied Behind → ⊥
   not-behind (refused why e) q = let z : why ≡ Behind = cc in true≢false (ap endsRound (sym z) ∙ refuses-keeps e)

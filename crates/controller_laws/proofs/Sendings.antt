@@ -20,6 +20,7 @@ use Rattle.floats.specs.Ranges.{stateFits, targetsFit}
 use Rattle.vote.specs.declared.digest.Digest.{Digest}
 use Rattle.vote.specs.declared.judge.Decision.the-variants.{Decided}
 use Rattle.vote.proofs.Decided.{decided-legal}
+use Rattle.vote.proofs.InRange.{legal-range}
 use Rattle.filter.specs.Compute.{setPoints}
 use Rattle.filter.proofs.Laws.{given-range}
 use Rattle.message.specs.declared.head.Head.{Head}
@@ -54,7 +55,7 @@ use Rattle.controller_laws.specs.Ways.Leads.{refused, unchanged, begins,
 use Rattle.controller_laws.specs.Ways.Goes.{out, led}
 use Rattle.controller_laws.proofs.Fits.{own-legal, inputs}
 use Rattle.controller_laws.proofs.Held.{selected-fit}
-use Rattle.controller_laws.proofs.Valid.{legal-facts, Valid}
+use Rattle.controller_laws.proofs.Valid.{Valid}
 use Rattle.controller_laws.proofs.Ways.{goes}
 
 -- ---- a plain kind is sent as its head alone
@@ -85,7 +86,7 @@ module _ (s : Numbers) (c : Controller) (fit : numbersFit s ≡ true) (v : Valid
 
   pub round : Busy (c .phase) → roundFits (c .label) ≡ true
   round b =
-      let q = legal-facts m (c .label) (ownDigest (briefOf c)) (own-legal s c fit v b) in
+      let q = legal-range m (c .label) (ownDigest (briefOf c)) (own-legal s c fit v b) in
       and-both (le-leb 1 (c .label .0) (omega (arith, q .older))) (le-leb (c .label .0) labelTop (v .label))
 
   reply-ready : (mask : ℕ) → Busy (c .phase) → (bitAnd mask (c .held) ≡ 0 → ⊥) → Ready c (Reply (c .own) (c .label) (bitAnd mask (c .held)))

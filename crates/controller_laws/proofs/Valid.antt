@@ -1,21 +1,20 @@
--- What it says that settings, a digest, seats, a phase and a whole controller are in range, as facts and back. Assumes nothing.
-use Prim.Native.Nat.{ℕ, _≤_, _<_}
-use mathlib.Core.Path.{_≡_, refl, ap}
+-- What it says that settings, seats, a phase and a whole controller are in range, as facts and back. Assumes nothing.
+use Prim.Native.Nat.{ℕ, _^_, _≤_, _<_}
+use mathlib.Core.Path.{_≡_, refl, ap, subst}
 use mathlib.Core.Bool.{Bool, true, false, not, _&&_}
-use lib.Dec.{leb, ltb}
+use lib.Dec.{ltb}
 use lib.ListN.{getD, replicate, getD-replicate}
 use borrow.Author.Tests.{leb-true, le-leb, ltb-true, lt-ltb, not-true}
-use Rattle.units.specs.declared.labels.RoundLabel.{RoundLabel}
 use Rattle.units.specs.declared.settings.Group.{Group}
 use Rattle.units.specs.declared.settings.Numbers.{Numbers}
-use Rattle.units.specs.Labels.{before, floorFits, stateLabelFits}
+use Rattle.units.specs.Labels.{floorFits, stateLabelFits}
 use Rattle.units.specs.Limits.{controllersTop, runsTop, labelTop, firstTop}
-use Rattle.units.specs.Mask.{maskEnd, maskFits}
+use Rattle.units.specs.Mask.{maskEnd}
 use Rattle.units.specs.Settings.{numbersFit}
 use Rattle.units.proofs.Every.{and-left, and-right, and-both}
 use Rattle.units.proofs.InRange.{numbers-range}
+use Rattle.units.proofs.Masks.{mask-end-is}
 use Rattle.floats.specs.Ranges.{stateFits}
-use Rattle.vote.specs.declared.digest.Digest.{Digest}
 use Rattle.vote.specs.declared.votes.Ballot.{Ballot}
 use Rattle.vote.specs.declared.votes.Seat.{Seat}
 use Rattle.vote.specs.Digest.{legal}
@@ -56,27 +55,9 @@ module _ (s : Numbers) (h : numbersFit s ≡ true) where
   pub sized : Sized (s .group)
   sized = let f = numbers-range s h in record { g-high = f .controllers .1; m-high = f .runs .1 }
 
--- ---- a digest
-pub record Lawful (m : ℕ) (label : RoundLabel) (d : Digest) : Type 0 where
-  pub some-run : 1 ≤ d .mask
-  pub own-runs : d .mask < maskEnd m
-  pub older : d .state .0 < label .0
-
-module _ (m : ℕ) (label : RoundLabel) (d : Digest) where
-  pub legal-facts : legal m label d ≡ true → Lawful m label d
-  unfolding legal
-  legal-facts h =
-      let k = and-right (leb m runsTop) _ (and-left (leb m runsTop && maskFits m (d .mask)) (before (d .state) label) h) in
-      record {
-        some-run = leb-true _ _ (and-left (leb 1 (d .mask)) _ k);
-        own-runs = ltb-true _ _ (and-right (leb 1 (d .mask)) _ k);
-        older = ltb-true _ _ (and-right (leb m runsTop && maskFits m (d .mask)) (before (d .state) label) h);
-      }
-
-  pub legal-made : m ≤ runsTop → Lawful m label d → legal m label d ≡ true
-  unfolding legal
-  legal-made k f =
-      and-both (and-both (le-leb m runsTop k) (and-both (le-leb 1 (d .mask) (f .some-run)) (lt-ltb (d .mask) (maskEnd m) (f .own-runs)))) (lt-ltb (d .state .0) (label .0) (f .older))
+-- ---- a mask below the end of m runs' masks
+pub below-end : (m mask : ℕ) → m ≤ runsTop → mask < maskEnd m → mask < 2 ^ m
+below-end m mask h l = subst (λ (n : ℕ). mask < n) (mask-end-is m h) l
 
 -- ---- seats
 pub unseated : (i : ℕ) → i < 7 → cast (getD (replicate controllersTop nobody) i nobody .ballot) ≡ false

@@ -6,11 +6,12 @@ use native.Mathlib.Omega.{arith}
 use native.Mathlib.Nat.{mod-lt}
 use lib.Count.{ones, ones-cat, ones-le}
 use lib.Dec.{eqb, lit<}
-use lib.ListN.{length, getD, set, replicate, length-append, length-set, length-replicate, getD-replicate, List·getD-append}
+use lib.ListN.{length, getD, replicate, length-append, length-replicate, getD-replicate, List·getD-append}
 use lib.Pow.{mod-pow-add, pow-mono}
-use lib.Seq.{ext-getD, getD-append-seam, getD-set-same, getD-set-other}
+use lib.Seq.{ext-getD, getD-append-seam}
 use borrow.Author.Tests.{eqb-true, eqb-false}
 use Rattle.units.specs.Mask.{inMask}
+use Rattle.units.proofs.Tab.{Filled, fill-none}
 use Rattle.fields.proofs.Cases.{by-test, by-lt}
 use Rattle.lines.specs.Lists.{column}
 use Rattle.lines.specs.Values.{tally}
@@ -35,32 +36,15 @@ module _ {A : Type 0} (f : ℕ → A) where
       ext-getD d xs (column f n) (e ∙ sym (length-column n)) (λ i l. let k : i < n = omega arith in h i k ∙ sym (getD-column d n i k))
 
   -- sixteen places, of which those below i are f's and the others as they were
-  pub record Filling (d rest : A) (xs : List A) (i : ℕ) : Type 0 where
-    pub long : length xs ≡ 16
-    pub made : (j : ℕ) → j < i → getD xs j d ≡ f j
-    pub left : (j : ℕ) → i ≤ j → j < 16 → getD xs j d ≡ rest
+  abbrev pub Filling : A → A → List A → ℕ → Type 0
+  Filling d rest xs i = Filled f d 16 (replicate 16 rest) xs i
 
   pub fill-start : (d rest : A) → Filling d rest (replicate 16 rest) 0
-  fill-start d rest = record {
-    long = length-replicate 16 rest;
-    made = λ j h. absurd (omega arith);
-    left = λ j h k. getD-replicate 16 j rest d k;
-  }
-
-  pub fill-more : (d rest : A) (xs : List A) (i : ℕ) (y : A) → Filling d rest xs i → i < 16 → y ≡ f i → Filling d rest (set xs i y) (i + 1)
-  fill-more d rest xs i y w h e =
-      let l = w .long in
-      let m : i < length xs = omega arith in
-      record {
-        long = length-set xs i y ∙ l;
-        made = λ j k. by-lt j i (λ b. getD-set-other xs i j y d (λ z. absurd (omega arith)) ∙ w .made j b)
-            (λ b. let q : j ≡ i = omega arith in rw q (getD-set-same xs i y d m ∙ e));
-        left = λ j k b. getD-set-other xs i j y d (λ z. absurd (omega arith)) ∙ w .left j (omega arith) b;
-      }
+  fill-start d rest = fill-none f d 16 (replicate 16 rest) (length-replicate 16 rest)
 
   pub fill-done : (d rest : A) (xs : List A) (i : ℕ) → Filling d rest xs i → ((j : ℕ) → i ≤ j → j < 16 → f j ≡ rest) → xs ≡ column f 16
   fill-done d rest xs i w h =
-      is-column d 16 xs (w .long) (λ j l. by-lt j i (λ b. w .made j b) (λ b. w .left j b l ∙ sym (h j b l)))
+      is-column d 16 xs (w .0) (λ j l. by-lt j i (λ b. w .1 j b) (λ b. w .2 j b ∙ getD-replicate 16 j rest d l ∙ sym (h j b l)))
 
 pub column-same : {A : Type 0} (f g : ℕ → A) (n : ℕ) → ((i : ℕ) → i < n → f i ≡ g i) → column f n ≡ column g n
 unfolding column

@@ -10,14 +10,12 @@ use lib.ListN.{length, getD, set, length-append, length-set}
 use lib.Seq.{sets, sets-eq}
 use borrow.Author.Tests.{eq-eqb, ne-eqb, lt-ltb, le-ltb, not-true, not-false}
 use Rattle.units.specs.declared.refusal.Refusal.the-variants.{Range, Room}
-use Rattle.units.specs.Every.{every}
 use Rattle.units.specs.Pick.{pick}
-use Rattle.units.specs.Settings.{groupFits, numbersFit}
-use Rattle.units.proofs.Every.{and-left, and-right, and-three}
+use Rattle.units.proofs.Every.{and-left, and-right}
 use Rattle.units.specs.Within.{within}
-use Rattle.units.proofs.InRange.{group-fits, within-range}
+use Rattle.units.proofs.InRange.{within-range}
 use Rattle.message.specs.declared.settings.Settings.{Settings}
-use Rattle.message.specs.Settings.{noCertificate, certificateAt, sixteen, settingsFit}
+use Rattle.message.specs.Settings.{noCertificate, sixteen, settingsFit}
 use Rattle.message.proofs.InRange.{settings-exact}
 use Rattle.fields.specs.declared.spelling.Spelling.the-variants.{Decimal, Factor}
 use Rattle.fields.specs.Put.{put, putEnd, written}
@@ -30,7 +28,7 @@ use Rattle.lines.specs.declared.write.Written.the-variants.{Done, Refuse
 use Rattle.lines.specs.Settings.{bytesOf, runNumber, who, share, runLine, settingLine, settingFits}
 use Rattle.lines.specs.Table.{quantityAt}
 use Rattle.lines.specs.Writing.{lineOf, answerOf, bufferOf, writeAnswer, writeBuffer}
-use Rattle.lines.proofs.Sending.{group-runs, write-range, write-put}
+use Rattle.lines.proofs.Sending.{write-range, write-put}
 
 -- A FIELD AFTER ITS TAB
 module _ (l : List ℕ) (at : ℕ) (s : List ℕ) (h : at + (1 + length s) ≤ length l) where
@@ -103,17 +101,8 @@ module _ (run : ℕ) (cs : List ℕ) (factor weight len w n : ℕ) (b : List ℕ
             (refl, p ∙ (rw z at (sets-eq (75 ∷ X ++ (10 ∷ [])) b 0 (omega arith))))
 
 -- SETTINGS IN RANGE
-pub record Settle (s : Settings) : Type 0 where
-  pub numbers : numbersFit (s .numbers) ≡ true
-  pub lists : sixteen s ≡ true
-  pub certificates : every (certificateAt s) 16 ≡ true
-
-pub settings-fit : (s : Settings) → settingsFit s ≡ true → Settle s
-unfolding settingsFit
-settings-fit s e = let h = and-three (numbersFit (s .numbers)) (sixteen s) (every (certificateAt s) 16) e in record { numbers = h .0; lists = h .1; certificates = h .2 }
-
-pub settings-group : (s : Settings) → settingsFit s ≡ true → groupFits (s .numbers .group) ≡ true
-settings-group s e = group-fits (s .numbers) (settings-fit s e .numbers)
+settings-few : (s : Settings) → settingsFit s ≡ true → s .numbers .group .m ≤ 16
+settings-few s e = settings-exact s .0 e .numbers .runs .1
 
 -- `is_setting`
 module _ (s : Settings) (k : ℕ) (b : Bool) (be : b ≡ settingsFit s) where
@@ -122,7 +111,7 @@ module _ (s : Settings) (k : ℕ) (b : Bool) (be : b ≡ settingsFit s) where
   setting-none t = rw (← be, not-true b t)
 
   pub setting-runs : not b ≡ false → s .numbers .group .m ≤ 16
-  setting-runs t = group-runs (s .numbers .group) (settings-group s (sym be ∙ not-false b t)) .1
+  setting-runs t = settings-few s (sym be ∙ not-false b t)
 
   pub setting-some : not b ≡ false → (leb 1 k && leb k (2 + s .numbers .group .m)) ≡ settingFits s k
   unfolding settingFits
@@ -150,7 +139,7 @@ module _ (s : Settings) (k : ℕ) (f : settingFits s k ≡ true) where
     run-below = let u = unpacked in omega arith
 
     pub run-few : run < 16
-    run-few = let u = unpacked in let g = group-runs (s .numbers .group) (settings-group s (u .0)) in let r = run-below in omega arith
+    run-few = let g = settings-few s (unpacked .0) in let r = run-below in omega arith
 
     pub certificate-long : (getD (s .certificates) run noCertificate .len ≤ 16) × (length (getD (s .certificates) run noCertificate .bytes) ≡ 16)
     certificate-long = let c = settings-exact s .0 (unpacked .0) .certificate run run-below in (c .size .1, c .sixteen)

@@ -17,7 +17,7 @@ use Rattle.session.specs.declared.feed.Session.{Session}
 use Rattle.session.specs.declared.stage.Core.{Core}
 use Rattle.session.specs.declared.stage.Stage.the-variants.{Ended}
 use Rattle.session.specs.declared.turn.Turned.{Turned}
-use Rattle.session.specs.Feeding.{Heard, Wrote, advancing, lineDone, lineDoneBy, fed, fedText, finished, holding, lastOf, lastTurn, lineTurn}
+use Rattle.session.specs.Feeding.{Heard, Wrote, advancing, lineDone, lineDoneBy, fed, fedText, finished, pieceHeld, lastOf, lastTurn, lineTurn}
 use Rattle.session.specs.Turn.{Turn, settledIn, turnBy, verdictText}
 use Rattle.session.proofs.Room.{fed-holds, text-none, fed-line, text-line}
 use Rattle.session.proofs.Writes.{Puts, puts-none, puts-same}
@@ -30,7 +30,7 @@ done-by x end t r before after w = by-lt (length before) (length (t .text))
     (λ h. let e = le-ltb (length before) (length (t .text)) h in rw (w .0, w .1, e))
 
 module _ (x : Session) (input : List ℕ) (n : ℕ) (e : n ≡ feedAt input) where
-  pub feed-held : (r : Fed) (buf : List ℕ) → n ≡ length input → r ≡ holding x input → (r ≡ fed x input (length buf)) × (buf ≡ bufferOf (fedText x input) buf)
+  pub feed-held : (r : Fed) (buf : List ℕ) → n ≡ length input → r ≡ pieceHeld x input → (r ≡ fed x input (length buf)) × (buf ≡ bufferOf (fedText x input) buf)
   feed-held r buf k h =
       let j = sym e ∙ k in
       (h ∙ sym (fed-holds x input (length buf) j), puts-none buf .1 ∙ ap (λ t. bufferOf t buf) (sym (text-none x input j)))

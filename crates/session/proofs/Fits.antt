@@ -1,23 +1,23 @@
 -- A CORE STAYS IN RANGE: from the start on, whatever line comes. Assumes nothing.
 use Prim.Native.Nat.{ℕ}
 use mathlib.Core.Path.{_≡_, refl, _∙_}
-use mathlib.Core.Bool.{true, _&&_}
+use mathlib.Core.Bool.{true}
 use mathlib.Core.List.{List, [], _∷_, _++_, append-assoc}
 use lib.Dec.{ltb}
 use Rattle.units.specs.declared.refusal.Verdict.{Verdict}
 use Rattle.units.specs.declared.refusal.Verdict.the-variants.{Taken, Refused}
-use Rattle.units.specs.Every.{every}
 use Rattle.units.specs.Labels.{floorFits}
-use Rattle.units.specs.Limits.{runsTop}
 use Rattle.units.specs.Settings.{numbersFit}
 use Rattle.units.proofs.Every.{and-left, and-right}
+use Rattle.units.proofs.InRange.{numbers-exact}
 use Rattle.message.specs.declared.head.Head.{Head}
 use Rattle.message.specs.declared.settings.Settings.{Settings}
 use Rattle.message.specs.declared.value.Message.{Message}
+use Rattle.message.proofs.InRange.{settings-exact}
 use Rattle.message.proofs.Views.{by-kind, start-seen}
 use Rattle.message.specs.Head.{headFits}
 use Rattle.message.specs.Message.{messageFits}
-use Rattle.message.specs.Settings.{certificateAt, sixteen, settingsFit}
+use Rattle.message.specs.Settings.{settingsFit}
 use Rattle.lines.specs.declared.settle.Standing.{Standing}
 use Rattle.lines.specs.declared.settle.Standing.the-variants.{More, Whole, Refused as NoSettings}
 use Rattle.lines.specs.declared.settle.Settling.{Settling}
@@ -55,8 +55,7 @@ module _ (st : Settling) (line : List ℕ) where
   whole-fits r e = settings-only (r .lines ++ (line ∷ []) ++ []) (settleLine st line .next) (reads-on r [] ∙ rw e) .fits
 
 settings-numbers : (s : Settings) → settingsFit s ≡ true → numbersFit (s .numbers) ≡ true
-unfolding settingsFit
-settings-numbers s e = and-left (numbersFit (s .numbers)) (sixteen s) (and-left (numbersFit (s .numbers) && sixteen s) (every (certificateAt s) runsTop) e)
+settings-numbers s e = numbers-exact (s .numbers) .1 (settings-exact s .0 e .numbers)
 
 settles-fits : (c : Core) (line : List ℕ) (told : Standing) → settleLine (c .settling) line .answer ≡ told → Reached (c .settling)
     → CoreFits (settlesTo c (settleLine (c .settling) line .next) told .next)

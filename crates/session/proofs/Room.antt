@@ -37,7 +37,7 @@ use Rattle.session.specs.declared.feed.Session.{Session}
 use Rattle.session.specs.declared.stage.Core.{Core}
 use Rattle.session.specs.declared.stage.Stage.{Stage}
 use Rattle.session.specs.declared.stage.Stage.the-variants.{Settling as AtSettings, Waiting, Running, Ended}
-use Rattle.session.specs.Feeding.{fitText, restText, putText, advancing, lineTurn, lineDone, holding, fed, fedText, finished, lastTurn}
+use Rattle.session.specs.Feeding.{fitText, restText, putText, advancing, lineTurn, lineDone, pieceHeld, fed, fedText, finished, lastTurn}
 use Rattle.session.specs.Turn.{Turn, groupIn, settlesTo, waitsFor, hears, verdictText, turnBy}
 use Rattle.session.proofs.Both.{puts-room, puts-short}
 
@@ -98,7 +98,7 @@ line-short x piece = turn-short (x .core) (lineIn (x .carry) (take (feedAt piece
 -- THE WAYS THAT A CALL CAN GO
 module _ (x : Session) (piece : List ℕ) where
   -- without a line feed
-  pub fed-holds : (room : ℕ) → feedAt piece ≡ length piece → fed x piece room ≡ holding x piece
+  pub fed-holds : (room : ℕ) → feedAt piece ≡ length piece → fed x piece room ≡ pieceHeld x piece
   unfolding fed pick
   fed-holds room e = rw (eq-eqb (feedAt piece) (length piece) e)
 

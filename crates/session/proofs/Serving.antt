@@ -34,7 +34,7 @@ use Rattle.fields.specs.Lines.{feedAt}
 use Rattle.session.specs.Feeding.{advancing, answerPut, lineDone, fed, fedText, lineTurn, putText}
 use Rattle.session.specs.Pieces.{Feeds}
 use Rattle.session.specs.Repeat.{Run, runOn}
-use Rattle.session.specs.Serving.{firstText, goesOn, isRunning, lineRun, mayRun, planLine, ran, ranOn, runAfter, served, servedText}
+use Rattle.session.specs.Serving.{firstText, goesOn, isRunning, lineRun, mayRun, planLine, ran, ranOn, runNext, served, servedText}
 use Rattle.session.specs.Turn.{Turn, hears, numbersIn, runningWith, turnBy, verdictText}
 use Rattle.session.proofs.Adding.{goes-whole, line-moves}
 use Rattle.session.proofs.Both.{mid-rest, put-rest}
@@ -44,7 +44,7 @@ use Rattle.session.proofs.Room.{buffer-length, call-wrote, done-room, f
 
 -- A RUN takes no more than there is, and writes no more than there is room for
 module _ (x : Session) (input : List ℕ) (room : ℕ) where
-  run-few-after : (runAfter x input room .took ≤ length input) × (length (runAfter x input room .text) ≤ room)
+  run-few-after : (runNext x input room .took ≤ length input) × (length (runNext x input room .text) ≤ room)
   run-few-after = let s = numbersIn (x .core) in run-few goesOn (lineRun s) (λ k i n e. line-moves i n s k e) (length input) (x .core .controller) input room
 
 -- THE FIRST CALL, AND WHAT COMES BEHIND IT
@@ -66,7 +66,7 @@ module _ (x : Session) (piece buf : List ℕ) where
     rest = drop (f .took) piece
 
     abbrev r : Run Controller
-    r = runAfter (f .next) rest (length buf - f .wrote)
+    r = runNext (f .next) rest (length buf - f .wrote)
 
     serve-goes : served x piece (length buf) ≡ ranOn f (ran r)
     unfolding served pick
@@ -127,7 +127,7 @@ module _ (x : Session) (piece buf out : List ℕ) (b : out ≡ bufferOf (fedText
   lentFrom g = midOf (g .wrote) (length out - g .wrote) out
 
   abbrev runFrom : Fed → Run Controller
-  runFrom g = runAfter (g .next) (midOf (g .took) (length piece - g .took) piece) (length (lentFrom g))
+  runFrom g = runNext (g .next) (midOf (g .took) (length piece - g .took) piece) (length (lentFrom g))
 
   abbrev Goes : Fed → Type 0
   Goes g = mayRun (g .next) ≡ true → (r : Ran) (w : List ℕ) → (r ≡ ran (runFrom g)) × (w ≡ bufferOf (runFrom g .text) (lentFrom g))
@@ -138,9 +138,9 @@ module _ (x : Session) (piece buf out : List ℕ) (b : out ≡ bufferOf (fedText
       let g = fed x piece (length buf) in
       let y = g .next in
       let l = drop (g .took) piece in
-      let q : runFrom g ≡ runAfter y l (length buf - g .wrote) = ap₂ (λ (i : List ℕ) (n : ℕ). runAfter y i n) (mid-rest (g .took) piece) (lent-length x piece buf e out b) in
-      let re : r ≡ ran (runAfter y l (length buf - g .wrote)) = h .0 ∙ ap ran q in
-      let we : w ≡ bufferOf (runAfter y l (length buf - g .wrote) .text) (lentFrom g) = h .1 ∙ ap (λ (z : Run Controller). bufferOf (z .text) (lentFrom g)) q in
+      let q : runFrom g ≡ runNext y l (length buf - g .wrote) = ap₂ (λ (i : List ℕ) (n : ℕ). runNext y i n) (mid-rest (g .took) piece) (lent-length x piece buf e out b) in
+      let re : r ≡ ran (runNext y l (length buf - g .wrote)) = h .0 ∙ ap ran q in
+      let we : w ≡ bufferOf (runNext y l (length buf - g .wrote) .text) (lentFrom g) = h .1 ∙ ap (λ (z : Run Controller). bufferOf (z .text) (lentFrom g)) q in
       let tk : r .took ≤ length l = rw re (run-few-after y l (length buf - g .wrote) .0) in
       let wr : r .wrote ≤ length buf - g .wrote = rw re (run-few-after y l (length buf - g .wrote) .1) in
       let a = took-few x piece (length buf) in
@@ -184,7 +184,7 @@ module _ (x : Session) (piece : List ℕ) (lent : ℕ) where
       let a = first-wrote x piece lent in
       by-test (mayRun (fed x piece lent .next))
       (λ e.
-      let r = runAfter (fed x piece lent .next) (drop (fed x piece lent .took) piece) (lent - fed x piece lent .wrote) in
+      let r = runNext (fed x piece lent .next) (drop (fed x piece lent .took) piece) (lent - fed x piece lent .wrote) in
       rw e (ap (λ (n : ℕ). n + length (r .text)) a ∙ sym (length-append (firstText x piece lent) (r .text))))
       (λ e. rw e a)
 
@@ -255,7 +255,7 @@ module _ (x : Session) (piece : List ℕ) (room : ℕ) where
   behind e =
       let y = g .next in
       let l = drop (g .took) piece in
-      let r = runAfter y l (room - g .wrote) in
+      let r = runNext y l (room - g .wrote) in
       let i = subst (λ (z : Session). Feeds z (take (r .took) l) (r .text) (at-line (y .core) (y .carry) (r .next))) (may-run y e) (lines-exact (y .core) (y .carry) (y .core .controller) l (room - g .wrote)) in
       let z : y .carry .len ≡ 0 = eqb-true (y .carry .len) 0 (and-right (isRunning (y .core .stage)) (eqb (y .carry .len) 0) e) in
       let k : emptied (y .carry) ≡ y .carry = ap (λ (n : ℕ). record { len = n; bytes = y .carry .bytes }) (sym z) in

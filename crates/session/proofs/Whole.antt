@@ -28,7 +28,7 @@ use Rattle.session.specs.declared.stage.Core.{Core}
 use Rattle.session.specs.declared.stage.Stage.{Stage}
 use Rattle.session.specs.declared.stage.Stage.the-variants.{Settling as AtSettings, Waiting, Running, Ended}
 use Rattle.session.specs.Booting.{led, told}
-use Rattle.session.specs.Feeding.{advancing, lineTurn, holding, fed, fedText, unended, unendedLine, lastOf, lastTurn, finished, sessionStart}
+use Rattle.session.specs.Feeding.{advancing, lineTurn, pieceHeld, fed, fedText, unended, unendedLine, lastOf, lastTurn, finished, sessionStart}
 use Rattle.session.specs.Pieces.{Feeds, Stands}
 use Rattle.session.specs.Pieces.Feeds.{none, more}
 use Rattle.session.specs.Reach.{FitsAt, CoreFits}
@@ -77,7 +77,7 @@ record One (x : Session) (p piece : List ℕ) (r : Fed) (wrote : List ℕ) : Typ
   pub left : (rest : List ℕ) → unfinished (p ++ (piece ++ rest)) ≡ unfinished (now ++ (drop (r .took) piece ++ rest))
 
 module _ (x : Session) (p piece : List ℕ) (s : Stands x p) where
-  one-held : feedAt piece ≡ length piece → One x p piece (holding x piece) []
+  one-held : feedAt piece ≡ length piece → One x p piece (pieceHeld x piece) []
   unfolding led told
   one-held e =
       record {

@@ -97,11 +97,11 @@ lineDoneBy x end next (Done len) = record { next = record { core = next; carry =
 lineDoneBy x end next (NotWritten why) = record { next = x; took = 0; wrote = 0; verdict = Refused why }
 
 -- an input without a line feed is held
-abbrev pub holding : Session → List ℕ → Fed
-holding x input = record { next = record { core = x .core; carry = heldWith (x .carry) input }; took = length input; wrote = 0; verdict = Taken }
+abbrev pub pieceHeld : Session → List ℕ → Fed
+pieceHeld x input = record { next = record { core = x .core; carry = heldWith (x .carry) input }; took = length input; wrote = 0; verdict = Taken }
 
 unfoldable pub fed : Session → List ℕ → ℕ → Fed
-fed x input room = pick (eqb (feedAt input) (length input)) (holding x input) (lineDone x (feedAt input + 1) (lineTurn x input) room)
+fed x input room = pick (eqb (feedAt input) (length input)) (pieceHeld x input) (lineDone x (feedAt input + 1) (lineTurn x input) room)
 
 -- what a call writes, where there is room for it
 unfoldable pub fedText : Session → List ℕ → List ℕ

@@ -70,8 +70,8 @@ isRunning Ended = false
 abbrev pub mayRun : Session → Bool
 mayRun x = isRunning (x .core .stage) && eqb (x .carry .len) 0
 
-abbrev pub runAfter : Session → List ℕ → ℕ → Run Controller
-runAfter x input room = runOf (numbersIn (x .core)) (x .core .controller) input room
+abbrev pub runNext : Session → List ℕ → ℕ → Run Controller
+runNext x input room = runOf (numbersIn (x .core)) (x .core .controller) input room
 
 abbrev pub ranOn : Fed → Ran → Fed
 ranOn f r = record {
@@ -84,7 +84,7 @@ ranOn f r = record {
 unfoldable pub served : Session → List ℕ → ℕ → Fed
 served x input room =
     pick (mayRun (fed x input room .next))
-    (ranOn (fed x input room) (ran (runAfter (fed x input room .next) (drop (fed x input room .took) input) (room - fed x input room .wrote))))
+    (ranOn (fed x input room) (ran (runNext (fed x input room .next) (drop (fed x input room .took) input) (room - fed x input room .wrote))))
     (fed x input room)
 
 -- what it writes: nothing of a line that was not taken for lack of room
@@ -94,5 +94,5 @@ firstText x input room = pick (ltb room (length (fedText x input))) [] (fedText 
 unfoldable pub servedText : Session → List ℕ → ℕ → List ℕ
 servedText x input room =
     pick (mayRun (fed x input room .next))
-    (firstText x input room ++ runAfter (fed x input room .next) (drop (fed x input room .took) input) (room - fed x input room .wrote) .text)
+    (firstText x input room ++ runNext (fed x input room .next) (drop (fed x input room .took) input) (room - fed x input room .wrote) .text)
     (firstText x input room)

@@ -2,7 +2,7 @@
 ghost use mathlib.Core.Path.{_≡_};
 ghost use lib.ListN.{length};
 ghost use Rattle.lines.specs.Writing.{bufferOf};
-ghost use Rattle.session.specs.Feeding.{fed, fedText, finished, holding, isEnded, lastOf, lastTurn, sessionStart, lineDoneBy, unendedLine};
+ghost use Rattle.session.specs.Feeding.{fed, fedText, finished, pieceHeld, isEnded, lastOf, lastTurn, sessionStart, lineDoneBy, unendedLine};
 use crate::answer::put_verdict;
 use crate::stage::Core;
 use crate::stage::Stage;
@@ -113,7 +113,7 @@ impl Session {
 
     // An input without a line feed.
     fn hold(self, input: &[u8]) -> Fed
-        ensures { λ r. ⌜ r ≡ holding self (now (input .entry)) ⌝ }
+        ensures { λ r. ⌜ r ≡ pieceHeld self (now (input .entry)) ⌝ }
     {
         let core = self.core;
         let old = self.carry;

@@ -3,8 +3,9 @@ use Prim.Native.Nat.{_-_, _≤_}
 use mathlib.Core.Path.{_≡_, refl}
 use native.Mathlib.Omega.{arith}
 use borrow.Author.Needs.{needs}
-use lib.ListN.{getD, take, drop}
-use Rattle.lines.proofs.Columns.{Filling, fill-start, fill-more, fill-done}
+use lib.ListN.{getD, take, drop, replicate}
+use Rattle.units.proofs.Tab.{fill-more}
+use Rattle.lines.proofs.Columns.{Filling, fill-start, fill-done}
 use Rattle.lines.proofs.Settlings.{byte-is, bytes-left, certificate-made}
 use Rattle.lines.proofs.settle.certificate_of.Statement.{statement}
 use Rattle.lines.proofs.settle.certificate_of.Tie as tie
@@ -16,7 +17,7 @@ abbrev μ-loop : tie.MeasureT-loop
 μ-loop text from to len bytes₀ i₀ bytes i = len - i
 
 loop-again : tie.Need-loop-again Inv-loop μ-loop
-loop-again c = let l = c .before .before .loop in let a = c .before .before .before .args in (omega arith, l .inv .1, fill-more _ 0 0 (l .bytes) (l .i) _ (l .inv .2) (omega arith) (byte-is (a .text .now) (a .from) (a .to) (l .i) (omega arith)))
+loop-again c = let l = c .before .before .loop in let a = c .before .before .before .args in (omega arith, l .inv .1, fill-more _ 0 16 (replicate 16 0) (l .bytes) (l .i) _ (l .inv .2) (omega arith) (byte-is (a .text .now) (a .from) (a .to) (l .i) (omega arith)))
 
 returns : tie.Need-returns Inv-loop μ-loop
 returns c =

@@ -3,7 +3,9 @@ use Prim.Native.Nat.{_-_, _≤_}
 use mathlib.Core.Path.{_≡_}
 use native.Mathlib.Omega.{arith}
 use borrow.Author.Needs.{needs}
-use Rattle.lines.proofs.Columns.{Filling, fill-start, fill-more, fill-done}
+use lib.ListN.{replicate}
+use Rattle.units.proofs.Tab.{fill-more}
+use Rattle.lines.proofs.Columns.{Filling, fill-start, fill-done}
 use Rattle.floats.specs.Ranges.{blank, noEstimate}
 use Rattle.lines.specs.Table.{runsOf}
 use Rattle.lines.specs.Values.{estimateIn}
@@ -20,7 +22,7 @@ abbrev μ-loop : tie.MeasureT-loop
 loop-again : tie.Need-loop-again Inv-loop μ-loop
 loop-again c =
     let t = c .before .before .before in let l = t .before .loop in let a = t .before .before .before .args in
-    (omega arith, l .inv .1, fill-more _ noEstimate blank (l .out) (l .i) _ (l .inv .2) (omega arith) (estimate-made (a .n) _ (l .i) (a .v .now) _ (l .inv .1) (t .loop-test .taken) (c .estimate-of .ensures)))
+    (omega arith, l .inv .1, fill-more _ noEstimate 16 (replicate 16 blank) (l .out) (l .i) _ (l .inv .2) (omega arith) (estimate-made (a .n) _ (l .i) (a .v .now) _ (l .inv .1) (t .loop-test .taken) (c .estimate-of .ensures)))
 
 returns : tie.Need-returns Inv-loop μ-loop
 returns c = let l = c .before .loop in let a = c .before .before .before .args in fill-done _ noEstimate blank (l .out) (l .i) (l .inv .2) (estimate-left (a .n) _ (l .i) (a .v .now) (l .inv .1) (c .loop-test .left))

@@ -3,7 +3,9 @@ use Prim.Native.Nat.{_+_, _-_, _%_, _^_, _≤_}
 use mathlib.Core.Path.{_≡_}
 use native.Mathlib.Omega.{arith}
 use borrow.Author.Needs.{needs}
-use Rattle.lines.proofs.Columns.{Filling, fill-start, fill-more, fill-done, bits-few}
+use lib.ListN.{replicate}
+use Rattle.units.proofs.Tab.{fill-more}
+use Rattle.lines.proofs.Columns.{Filling, fill-start, fill-done, bits-few}
 use lib.Count.{ones}
 use Rattle.lines.specs.Values.{readingIn}
 use Rattle.lines.proofs.Making.{no-readings, at-start, raw-made, at-more}
@@ -26,7 +28,7 @@ loop-again c =
       omega arith,
       omega (arith, bits-few (a .mask) (l .i + 1)),
       m,
-      fill-more _ 0 0 (l .out) (l .i) _ (l .inv .3) (h .before .loop-test .taken)
+      fill-more _ 0 16 (replicate 16 0) (l .out) (l .i) _ (l .inv .3) (h .before .loop-test .taken)
           (raw-made (a .mask) (a .v .now) (l .out) (l .at) (l .i) _ _ (l .inv .2) (h .has .ensures) (c .before .raw-where .ensures)),
     )
 

@@ -3,7 +3,9 @@ use Prim.Native.Nat.{_-_, _≤_}
 use mathlib.Core.Path.{_≡_}
 use native.Mathlib.Omega.{arith}
 use borrow.Author.Needs.{needs}
-use Rattle.lines.proofs.Columns.{Filling, fill-start, fill-more, fill-done}
+use lib.ListN.{replicate}
+use Rattle.units.proofs.Tab.{fill-more}
+use Rattle.lines.proofs.Columns.{Filling, fill-start, fill-done}
 use lib.Ieee.{nan}
 use Rattle.floats.specs.Bits.{nought}
 use Rattle.lines.specs.Table.{runsOf}
@@ -21,7 +23,7 @@ abbrev μ-loop : tie.MeasureT-loop
 loop-again : tie.Need-loop-again Inv-loop μ-loop
 loop-again c =
     let t = c .before .before in let l = t .before .loop in let a = t .before .before .before .args in
-    (omega arith, l .inv .1, fill-more _ nan nought (l .out) (l .i) _ (l .inv .2) (omega arith) (target-made (a .n) _ (l .i) (a .v .now) _ (l .inv .1) (t .loop-test .taken) (c .float-of .ensures)))
+    (omega arith, l .inv .1, fill-more _ nan 16 (replicate 16 nought) (l .out) (l .i) _ (l .inv .2) (omega arith) (target-made (a .n) _ (l .i) (a .v .now) _ (l .inv .1) (t .loop-test .taken) (c .float-of .ensures)))
 
 returns : tie.Need-returns Inv-loop μ-loop
 returns c = let l = c .before .loop in let a = c .before .before .before .args in fill-done _ nan nought (l .out) (l .i) (l .inv .2) (target-left (a .n) _ (l .i) (a .v .now) (l .inv .1) (c .loop-test .left))
