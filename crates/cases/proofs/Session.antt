@@ -5,6 +5,6 @@ use Rattle.filter.specs.Compute.{computed}
 use Rattle.filter.proofs.Computes.{run-computes, share-computes}
 use Rattle.cases.specs.Session.{label, base, start, settings, mask, readings, issued}
 
-pub session : computed label base start settings mask readings ≡ issued
+pub session-computed : computed label base start settings mask readings ≡ issued
 unfolding run-computes share-computes float-computes
-session = refl
+session-computed = refl

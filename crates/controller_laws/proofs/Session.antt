@@ -5,6 +5,6 @@ use Rattle.controller_laws.specs.Session.{estimateBits, line, whole, sai
 use Rattle.controller_laws.proofs.Computes.{step-computes}
 
 -- every message sent, as a whole value, float by float, and every number
-pub session : chain numbers (startOf numbers 0 (record { 0 = 0 })) lines ≡ answers
+pub session-steps : chain numbers (startOf numbers 0 (record { 0 = 0 })) lines ≡ answers
 unfolding step-computes estimateBits line whole said chain numbers lines answers
-session = refl
+session-steps = refl

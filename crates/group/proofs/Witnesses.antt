@@ -9,7 +9,7 @@ use Rattle.controller_laws.specs.Session.{numbers}
 use Rattle.group.specs.World.{empty, here}
 use Rattle.group.specs.Premises.{Kept, Run}
 use Rattle.group.specs.Scripts.{played, allFair, allWritable, refusals, saying}
-use Rattle.group.specs.Examples.{steady, session, sessionSays, three, returning, returningSays, mixed, mixedNumbers, mixedSays, certified}
+use Rattle.group.specs.Examples.{steady, sessionActs, sessionSays, three, returning, returningSays, mixed, mixedNumbers, mixedSays, certified}
 use Rattle.group.specs.Wire.{OnwardLines}
 use Rattle.group.proofs.Examples.{scripted}
 use Rattle.group.proofs.Wire.{wireOf}
@@ -18,8 +18,8 @@ use Rattle.group.proofs.StationExamples.{Stood, stood}
 use Rattle.group.proofs.Computes.{world-computes}
 
 -- each event keeps the premises
-session-fair : allFair numbers steady empty session ≡ true
-unfolding world-computes numbers session
+session-fair : allFair numbers steady empty sessionActs ≡ true
+unfolding world-computes numbers sessionActs
 session-fair = refl
 
 returning-fair : allFair three steady empty returning ≡ true
@@ -27,11 +27,11 @@ unfolding world-computes three returning
 returning-fair = refl
 
 -- document 01's session, as a run that keeps every premise, and all that is sent in it
-pub session-run : Run numbers (Kept steady) (played numbers empty session)
-session-run = scripted numbers steady empty empty session here session-fair
+pub session-run : Run numbers (Kept steady) (played numbers empty sessionActs)
+session-run = scripted numbers steady empty empty sessionActs here session-fair
 
-pub session-says : saying numbers (played numbers empty session) ≡ sessionSays
-unfolding world-computes numbers session sessionSays
+pub session-says : saying numbers (played numbers empty sessionActs) ≡ sessionSays
+unfolding world-computes numbers sessionActs sessionSays
 session-says = refl
 
 -- a crash, a restart at the floor, two issued labels: a run that keeps every premise, and all that is sent in it
@@ -59,8 +59,8 @@ unfolding world-computes three mixed mixedNumbers
 mixed-refused = refl
 
 -- every message in them can be written
-session-written : allWritable numbers session ≡ true
-unfolding world-computes numbers session
+session-written : allWritable numbers sessionActs ≡ true
+unfolding world-computes numbers sessionActs
 session-written = refl
 
 returning-written : allWritable three returning ≡ true
@@ -72,8 +72,8 @@ unfolding world-computes three mixed
 mixed-written = refl
 
 -- the same runs over lines
-pub session-lines : OnwardLines numbers steady empty (wireOf numbers steady (played numbers empty session))
-session-lines = scripted-lines numbers steady empty session here here session-fair session-written
+pub session-lines : OnwardLines numbers steady empty (wireOf numbers steady (played numbers empty sessionActs))
+session-lines = scripted-lines numbers steady empty sessionActs here here session-fair session-written
 
 pub returning-lines : OnwardLines three steady empty (wireOf three steady (played three empty returning))
 returning-lines = scripted-lines three steady empty returning here here returning-fair returning-written
@@ -90,7 +90,7 @@ pub returning-certified : settingsFit (certified three) ≡ true
 unfolding three column every groupFits runsFit numbersFit certificateFits settingsFit
 returning-certified = refl
 
-pub session-stations : Stood (certified numbers) session-certified steady (wireOf numbers steady (played numbers empty session))
+pub session-stations : Stood (certified numbers) session-certified steady (wireOf numbers steady (played numbers empty sessionActs))
 session-stations = stood (certified numbers) session-certified steady session-lines
 
 pub returning-stations : Stood (certified three) returning-certified steady (wireOf three steady (played three empty returning))

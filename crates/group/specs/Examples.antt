@@ -31,8 +31,8 @@ unfoldable pub steady : Meters
 steady label run = pick (eqb run 0) 200000 199060
 
 -- the session. Controller 1 is in round 2, and so its C leads to Q and to the session's A
-unfoldable pub session : List Act
-session =
+unfoldable pub sessionActs : List Act
+sessionActs =
     give 0 (Start 0 (round 0))
     ∷ give 0 (Reading (round 1) 0 200000)
     ∷ give 0 (Reading (round 1) 1 199060)
