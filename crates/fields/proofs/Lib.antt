@@ -4,6 +4,7 @@ pub mod Numbers
 pub mod Texts
 pub mod Scans
 pub mod Certificates
+pub mod Dates
 pub mod Spellings
 pub mod Puts
 pub mod Starts

@@ -7,7 +7,7 @@ use native.Mathlib.Omega.{arith}
 use native.Mathlib.Numerals.{add-one}
 use native.Mathlib.Nat.{pow-suc, pow-le-pow-right, mul-le-mul-left, mul-assoc}
 use lib.ListN.{length, getD, take, drop, length-append, length-take, length-drop, drop-of-length-le, take-append-drop}
-use lib.Seq.{drop-cons, drop-drop, getD-take, getD-drop}
+use lib.Seq.{drop-cons, drop-drop, getD-take, getD-drop, take-all}
 use lib.Dec.{eqb, ltb, leb, lit<, eqb·suc-suc}
 use borrow.Author.Tests.{lt-ltb, le-ltb, ltb-true, eq-eqb, ne-eqb, eqb-true, eqb-false, le-leb, lt-leb, not-true, not-false}
 use Rattle.units.specs.Limits.{labelTop, factorDigits}
@@ -15,6 +15,7 @@ use Rattle.units.proofs.Every.{and-left, and-right}
 use Rattle.fields.specs.Digits.{pick, digitOf, digitsAt, valueFrom, fixedIn}
 use Rattle.fields.specs.Text.{until, firstField, lacks, ends, starts, fieldAt, nextAt}
 use Rattle.fields.specs.Field.{plain, decimalSaid, factorSaid, saidBy, fits, judge, readField, readAt}
+use Rattle.fields.specs.Day.{dayJudged, dayIn, dayAt}
 use Rattle.fields.specs.declared.digit.Digits.{Digits}
 use Rattle.fields.specs.declared.digit.Digits.the-variants.{Said, Wrong}
 use Rattle.fields.specs.declared.field.Field.{Field}
@@ -420,3 +421,51 @@ digits-many text at n h = rw (le-leb 1 n (omega arith), lt-leb n 16 h)
 pub digits-made : (text : List ℕ) (at n : ℕ) (r : Digits) → 1 ≤ n → n ≤ 16 → r ≡ fixedIn 10 n 0 (take n (drop at text)) → r ≡ digitsAt text at n
 unfolding digitsAt
 digits-made text at n r l m e = rw (le-leb 1 n l, le-leb n 16 m) e
+
+-- `read_day` and `whole_day`: eight digits
+eight : (text : List ℕ) (at : ℕ) → digitsAt text at 8 ≡ fixedIn 10 8 0 (take 8 (drop at text))
+unfolding digitsAt
+eight text at = refl
+
+day-form : (next : ℕ) (d : Digits) → d ≡ Wrong → Form ≡ dayJudged next d
+unfolding dayJudged
+day-form next d e = rw e
+
+module _ (text : List ℕ) (at : ℕ) (d : Digits) (p : d ≡ digitsAt text at 8) where
+  q : d ≡ fixedIn 10 8 0 (take 8 (drop at text))
+  q = p ∙ eight text at
+
+  pub day-within : (n : ℕ) → d ≡ Said n → at + 8 ≤ length text
+  day-within n e = said-within text at 10 8 0 n (lit< tt) (sym q ∙ e)
+
+  pub day-wrong : d ≡ Wrong → Form ≡ dayAt text at
+  unfolding dayIn
+  day-wrong e = day-form (nextAt text at) _ (field-wrong 10 8 0 (drop at text) (omega arith) (sym q ∙ e))
+
+  module _ (n : ℕ) (e : d ≡ Said n) (b : Bool) (z : b ≡ ends (drop (at + 8) text)) where
+    pub day-more : b ≡ false → Form ≡ dayAt text at
+    unfolding dayIn
+    day-more t = day-form (nextAt text at) _ (field-more 10 8 0 (drop at text) (omega arith) n (sym q ∙ e) (rw (drop-drop 8 at text) (sym z ∙ t)))
+
+    pub day-said : b ≡ true → (r : Field) → r ≡ dayJudged (at + 8 + 1) (Said n) → r ≡ dayAt text at
+    unfolding dayIn
+    day-said t r j =
+        let s : ends (drop 8 (drop at text)) ≡ true = rw (drop-drop 8 at text) (sym z ∙ t) in
+        let l = field-long 10 8 0 (drop at text) (omega arith) n (sym q ∙ e) s in
+        rw (l, field-said 10 8 0 (drop at text) (omega arith) n (sym q ∙ e) s) j
+
+pub whole-short : (text : List ℕ) → (length text ≡ 8 → ⊥) → Form ≡ dayIn 0 text
+unfolding dayIn fixedIn
+whole-short text h = day-form 0 _ (rw (ne-eqb (length text) 8 h))
+
+module _ (text : List ℕ) (l : length text ≡ 8) (d : Digits) (p : d ≡ digitsAt text 0 8) where
+  all : d ≡ fixedIn 10 8 0 text
+  all = p ∙ eight text 0 ∙ ap (fixedIn 10 8 0) (take-all 8 text (omega arith))
+
+  pub whole-wrong : d ≡ Wrong → Form ≡ dayIn 0 text
+  unfolding dayIn
+  whole-wrong e = day-form 0 _ (sym all ∙ e)
+
+  pub whole-said : (n : ℕ) → d ≡ Said n → (r : Field) → r ≡ dayJudged 0 (Said n) → r ≡ dayIn 0 text
+  unfolding dayIn
+  whole-said n e r j = j ∙ ap (dayJudged 0) (sym e ∙ all)

@@ -1,6 +1,7 @@
-// Fields: digits, the one spelling of each number, splitting at tabs, certificates, putting bytes, and a stream cut into lines.
+// Fields: digits, the one spelling of each number, splitting at tabs, certificates, days, putting bytes, and a stream cut into lines.
 pub mod certificate;
 pub mod cut;
+pub mod day;
 pub mod decimal;
 pub mod digit;
 pub mod factor;
@@ -18,6 +19,8 @@ pub use certificate::Certificate;
 pub use certificate::certificate_end;
 pub use cut::Carry;
 pub use cut::Cut;
+pub use day::read_day;
+pub use day::whole_day;
 pub use digit::Digits;
 pub use digit::read_digits;
 pub use factor::put_factor;

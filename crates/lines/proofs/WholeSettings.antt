@@ -59,17 +59,17 @@ visible-at (c ∷ cs) e (suc i) h = visible-at cs (and-right (visible c) (allVis
 
 -- the bytes of a certificate in range are a certificate, and that certificate is theirs
 module _ (c : Certificate) (r : CertificateInRange c) where
-  bytes-long : length (bytesOf c) ≡ c .len
+  pub bytes-long : length (bytesOf c) ≡ c .len
   bytes-long = length-take-le (c .len) (c .bytes) (omega (arith, r .size, r .sixteen))
 
-  bytes-shown : isCertificate (bytesOf c) ≡ true
+  pub bytes-shown : isCertificate (bytesOf c) ≡ true
   unfolding isCertificate
   bytes-shown =
       let l = bytes-long in
       and-both (within-made 1 16 (length (bytesOf c)) (omega (arith, r .size)))
       (visible-all (bytesOf c) (λ i h. let b : i < c .len = omega arith in rw (getD-take (c .len) (c .bytes) i 0 b) (within-made 33 126 (getD (c .bytes) i 0) (r .byte i b))))
 
-  certificate-again : certificateOf (bytesOf c) ≡ c
+  pub certificate-again : certificateOf (bytesOf c) ≡ c
   certificate-again = rw (bytes-long, ← is-column (λ i. getD (bytesOf c) i 0) 0 16 (c .bytes) (r .sixteen) byte)
     where
       byte : (i : ℕ) → i < 16 → getD (c .bytes) i 0 ≡ getD (bytesOf c) i 0
@@ -82,7 +82,7 @@ module _ (cs : List ℕ) (e : isCertificate cs ≡ true) where
   abbrev padded : List ℕ
   padded = column (λ i. getD cs i 0) 16
 
-  certificate-made : CertificateInRange (certificateOf cs)
+  pub certificate-made : CertificateInRange (certificateOf cs)
   unfolding isCertificate
   certificate-made =
       let l = certificate-long cs e in
@@ -93,7 +93,7 @@ module _ (cs : List ℕ) (e : isCertificate cs ≡ true) where
         none = λ i h b. getD-column (λ i. getD cs i 0) 0 16 i b ∙ List·getD-eq-default cs 0 {n = i} h;
       }
 
-  bytes-again : bytesOf (certificateOf cs) ≡ cs
+  pub bytes-again : bytesOf (certificateOf cs) ≡ cs
   bytes-again =
       let l = certificate-long cs e in
       let n : length (take (length cs) padded) ≡ length cs = length-take-le (length cs) padded (let a = length-column (λ i. getD cs i 0) 16 in omega arith) in
@@ -193,7 +193,7 @@ runs-fit s h r = settings-exact s .1 (record {
   none = λ i l b. subst NoCertificate (sym (ap (λ (e : Entry). e .2) (r .left i l b))) (record { empty = refl; sixteen = length-replicate {A = ℕ} 16 0; none = λ j k. getD-replicate {A = ℕ} 16 j 0 0 k });
 })
 
-no-one : (c : Certificate) → NoCertificate c → c ≡ noOne
+pub no-one : (c : Certificate) → NoCertificate c → c ≡ noOne
 no-one c n =
     let b : c .bytes ≡ replicate 16 0 = ext-getD 0 (c .bytes) (replicate 16 0) (n .sixteen ∙ sym (length-replicate {A = ℕ} 16 0))
     (λ j h. let l : j < 16 = omega (arith, n .sixteen) in n .none j l ∙ sym (getD-replicate {A = ℕ} 16 j 0 0 l)) in

@@ -2,7 +2,7 @@
 use mathlib.Core.Path.{_≡_, refl}
 use borrow.Author.Tests.{eqb-false}
 use Rattle.units.specs.declared.refusal.Refusal.{Refusal}
-use Rattle.units.specs.declared.refusal.Refusal.the-variants.{Long, Unended, Kind, Fields, Form, Range, Own, Late, Closed, Other, Clash, Undecided, Lacking, Behind, Settings, Room}
+use Rattle.units.specs.declared.refusal.Refusal.the-variants.{Long, Unended, Kind, Fields, Form, Range, Own, Late, Closed, Other, Clash, Undecided, Lacking, Behind, Settings, Room, SameDay, NoneInForce, Full}
 use Rattle.units.specs.Refusal.{numberOf}
 
 pub six : (why : Refusal) → numberOf why ≡ 6 → why ≡ Range
@@ -22,3 +22,6 @@ six Lacking h = absurd (eqb-false 13 6 refl h)
 six Behind h = absurd (eqb-false 14 6 refl h)
 six (Settings line reason) h = absurd (eqb-false 15 6 refl h)
 six Room h = absurd (eqb-false 16 6 refl h)
+six SameDay h = absurd (eqb-false 17 6 refl h)
+six NoneInForce h = absurd (eqb-false 18 6 refl h)
+six Full h = absurd (eqb-false 19 6 refl h)

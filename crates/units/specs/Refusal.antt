@@ -1,9 +1,9 @@
--- Document 01's table of refusals: the number of each, and what 15 carries.
+-- Document 01's table of refusals, 1 to 16, and behind it request 1's three: the number of each, and what 15 carries.
 use Prim.Native.Nat.{ℕ}
 use mathlib.Core.Bool.{Bool}
 use mathlib.Core.List.{List, [], _∷_}
 use Rattle.units.specs.declared.refusal.Refusal.{Refusal}
-use Rattle.units.specs.declared.refusal.Refusal.the-variants.{Long, Unended, Kind, Fields, Form, Range, Own, Late, Closed, Other, Clash, Undecided, Lacking, Behind, Settings, Room}
+use Rattle.units.specs.declared.refusal.Refusal.the-variants.{Long, Unended, Kind, Fields, Form, Range, Own, Late, Closed, Other, Clash, Undecided, Lacking, Behind, Settings, Room, SameDay, NoneInForce, Full}
 use Rattle.units.specs.declared.refusal.Verdict.{Verdict}
 use Rattle.units.specs.declared.refusal.Verdict.the-variants.{Taken, Refused}
 use Rattle.units.specs.Limits.{numberTop}
@@ -26,8 +26,15 @@ numberOf Lacking = 13
 numberOf Behind = 14
 numberOf (Settings line reason) = 15
 numberOf Room = 16
+numberOf SameDay = 17
+numberOf NoneInForce = 18
+numberOf Full = 19
 
--- "`X` number (1..16)": a number of the table. `is-number-exact` of proofs/Refusals.antt says that these are the refusals' numbers and no others.
+-- "19 Full .. 17 Same day, 18 None in force": given to an export of the store alone
+abbrev pub ofStore : Refusal → Bool
+ofStore why = within 17 19 (numberOf why)
+
+-- "`X` number (1..16)": a number of document 01's table. `is-number-exact` of proofs/Refusals.antt says that these are its refusals' numbers and no others.
 abbrev pub isNumber : ℕ → Bool
 isNumber n = within 1 numberTop n
 
@@ -49,6 +56,9 @@ valuesOf Lacking = []
 valuesOf Behind = []
 valuesOf (Settings line reason) = line ∷ reason ∷ []
 valuesOf Room = []
+valuesOf SameDay = []
+valuesOf NoneInForce = []
+valuesOf Full = []
 
 -- no refusal has the number 0
 abbrev pub verdictNumber : Verdict → ℕ

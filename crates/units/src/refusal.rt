@@ -1,4 +1,4 @@
-// Why something was refused, and document 01's number for it.
+// Why something was refused, and the number for it: 1 to 16 by document 01, 17 to 19 by request 1 for an export of the store.
 ghost use mathlib.Core.Path.{_≡_};
 ghost use Rattle.units.specs.Refusal.{isNumber, numberOf, verdictNumber};
 use crate::limits::NUMBER_LOW;
@@ -21,6 +21,9 @@ pub enum Refusal {
     Behind,
     Settings { line: u32, reason: u32 },
     Room,
+    SameDay,
+    NoneInForce,
+    Full,
 }
 
 impl Refusal {
@@ -44,11 +47,14 @@ impl Refusal {
             Refusal::Behind => 14,
             Refusal::Settings { line: _, reason: _ } => 15,
             Refusal::Room => 16,
+            Refusal::SameDay => 17,
+            Refusal::NoneInForce => 18,
+            Refusal::Full => 19,
         }
     }
 }
 
-// Whether n is a refusal's number, as X may carry it.
+// Whether n is a refusal's number of document 01's table, as X may carry it.
 pub fn is_number(n: u32) -> bool
     ensures { λ r. ⌜ r ≡ isNumber n ⌝ }
 {
