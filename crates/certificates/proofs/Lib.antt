@@ -1,0 +1,2 @@
+-- The laws of `certificates`.
+mod Hearing

@@ -1,0 +1,2 @@
+-- What `certificates` is to do.
+pub mod Hearing
