@@ -170,7 +170,7 @@ fn hex(field: &[u8], digits: usize) -> Result<u64, u8> {
 }
 
 /// One digit, a point and exactly four digits, held in ten-thousandths.
-fn factor(field: &[u8]) -> Result<u32, u8> {
+pub fn factor(field: &[u8]) -> Result<u32, u8> {
     in_form(field.len() == 6 && field[1] == b'.')?;
     let digits = |part: &[u8]| part.iter().all(u8::is_ascii_digit);
     in_form(digits(&field[..1]) && digits(&field[2..]))?;
@@ -180,7 +180,7 @@ fn factor(field: &[u8]) -> Result<u32, u8> {
     Ok(factor)
 }
 
-fn certificate(field: &[u8]) -> Result<(), u8> {
+pub fn certificate(field: &[u8]) -> Result<(), u8> {
     in_form((1..=16).contains(&field.len()) && field.iter().all(u8::is_ascii_graphic))
 }
 

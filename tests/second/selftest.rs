@@ -1,7 +1,8 @@
-//! The session and the cases of document 01, and the two ways of deciding against the definition.
+//! The session and the cases of document 01, the two ways of deciding against the definition, and the store's cases.
 
 use crate::filter::{compute, Estimate, State};
 use crate::line::{Settings, RUNS};
+use crate::selftest_store;
 use crate::session::Station;
 use crate::vote::{all_runs, decided, decided_among, decided_by_count, legal, Decide, Digest, Vote};
 use std::process::ExitCode;
@@ -13,13 +14,13 @@ const ANSWERS: &str = "F 1\nD 0 1 0 0003\nS 0 1 0 0003 40F24F8000000000 40D86A00
 
 /// Counts what passed and says what failed.
 #[derive(Default)]
-struct Tally {
+pub struct Tally {
     passed: u32,
     failed: u32,
 }
 
 impl Tally {
-    fn check(&mut self, name: &str, holds: bool) {
+    pub fn check(&mut self, name: &str, holds: bool) {
         if holds {
             self.passed += 1;
         } else {
@@ -29,7 +30,7 @@ impl Tally {
     }
 }
 
-fn tabbed(text: &str) -> Vec<u8> {
+pub fn tabbed(text: &str) -> Vec<u8> {
     text.replace(' ', "\t").into_bytes()
 }
 
@@ -230,6 +231,7 @@ pub fn run() -> ExitCode {
     check_cases(&mut tally);
     check_small_groups(&mut tally);
     check_legal(&mut tally);
+    selftest_store::check(&mut tally);
     println!("{} passed, {} failed", tally.passed, tally.failed);
     ExitCode::from(u8::from(tally.failed > 0))
 }

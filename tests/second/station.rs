@@ -1,18 +1,23 @@
 //! A second `station`, written from document 01 alone, to compare the proved one with.
 //!
 //! `station` reads standard input; `station --fast` does the same and decides the vote by counting;
-//! `station --selftest` checks the session and the cases of document 01.
+//! `station certificates DAY SERIAL...` is a second `certificates`, written from document 02 alone;
+//! `station --selftest` checks the session and the cases of document 01, and the store's.
 
+mod certificates;
 mod controller;
 mod filter;
 mod line;
 mod selftest;
+mod selftest_store;
 mod session;
+mod store;
 mod vote;
 mod wrong;
 
 use session::Station;
 use std::io::{self, Read, Write};
+use std::os::unix::ffi::OsStringExt;
 use std::process::ExitCode;
 
 /// The size of the blocks that are read, and of the answers that are kept before they are written.
@@ -108,24 +113,32 @@ fn run(decide: vote::Decide) -> ExitCode {
     ExitCode::SUCCESS
 }
 
+/// With `--wrong NAME` in front, the program with that fault.
 #[cfg(wrong)]
-fn run_wrong(name: &str) -> ExitCode {
-    wrong::choose(name);
-    run(if wrong::is("shortcut") { vote::decided_by_shortcut } else { vote::decided })
+fn run_wrong(name: &[u8], words: &[&[u8]]) -> ExitCode {
+    wrong::choose(&String::from_utf8_lossy(name));
+    match words {
+        [] if wrong::is("shortcut") => run(vote::decided_by_shortcut),
+        words => run_words(words),
+    }
 }
 
-fn main() -> ExitCode {
-    let arguments: Vec<String> = std::env::args().skip(1).collect();
-    let arguments: Vec<&str> = arguments.iter().map(String::as_str).collect();
-    match arguments[..] {
+fn run_words(words: &[&[u8]]) -> ExitCode {
+    match words {
         [] => run(vote::decided),
-        ["--fast"] => run(vote::decided_by_count),
-        ["--selftest"] => selftest::run(),
+        [b"--fast"] => run(vote::decided_by_count),
+        [b"--selftest"] => selftest::run(),
+        [b"certificates", words @ ..] => certificates::run(words),
         #[cfg(wrong)]
-        ["--wrong", name] => run_wrong(name),
+        [b"--wrong", name, words @ ..] => run_wrong(name, words),
         _ => {
-            eprintln!("station [--fast | --selftest]");
+            eprintln!("station [--fast | --selftest | certificates DAY SERIAL...]");
             ExitCode::from(2)
         }
     }
+}
+
+fn main() -> ExitCode {
+    let words: Vec<Vec<u8>> = std::env::args_os().skip(1).map(OsStringExt::into_vec).collect();
+    run_words(&words.iter().map(Vec::as_slice).collect::<Vec<_>>())
 }
