@@ -193,7 +193,7 @@ runs-fit s h r = settings-exact s .1 (record {
   none = λ i l b. subst NoCertificate (sym (ap (λ (e : Entry). e .2) (r .left i l b))) (record { empty = refl; sixteen = length-replicate {A = ℕ} 16 0; none = λ j k. getD-replicate {A = ℕ} 16 j 0 0 k });
 })
 
-pub no-one : (c : Certificate) → NoCertificate c → c ≡ noOne
+no-one : (c : Certificate) → NoCertificate c → c ≡ noOne
 no-one c n =
     let b : c .bytes ≡ replicate 16 0 = ext-getD 0 (c .bytes) (replicate 16 0) (n .sixteen ∙ sym (length-replicate {A = ℕ} 16 0))
     (λ j h. let l : j < 16 = omega (arith, n .sixteen) in n .none j l ∙ sym (getD-replicate {A = ℕ} 16 j 0 0 l)) in
