@@ -6,6 +6,8 @@
 mod damage;
 mod generate;
 
+#[path = "../drawn.rs"]
+mod drawn;
 #[path = "../random.rs"]
 mod random;
 
@@ -24,12 +26,12 @@ mod vote;
 #[path = "../second/wrong.rs"]
 mod wrong;
 
+use drawn::Plan;
 use generate::Events;
 use random::Random;
 use std::collections::BTreeMap;
-use std::io::{Read, Write};
+use std::io::Read;
 use std::process::{Child, Command, ExitCode, Stdio};
-use std::sync::atomic::{AtomicU64, Ordering};
 use std::sync::mpsc::channel;
 use std::sync::Mutex;
 use std::thread;
@@ -51,14 +53,6 @@ const ENOUGH: u64 = 1000;
 
 /// How long a program may take for one input.
 const PATIENCE: Duration = Duration::from_secs(60);
-
-struct Plan {
-    commands: [String; 2],
-    seed: u64,
-    count: u64,
-    workers: u64,
-    folder: String,
-}
 
 /// What the inputs compared so far came to.
 #[derive(Default)]
@@ -85,32 +79,11 @@ fn start(command: &str) -> Child {
 }
 
 /// The pieces in which an input is handed over: mostly one, else cut anywhere.
-fn pieces<'a>(input: &'a [u8], number: u64) -> Vec<&'a [u8]> {
-    let mut random = Random::new(number, 0);
+fn pieces(input: &[u8], number: u64) -> Vec<&[u8]> {
     if number % 16 != 5 {
         return vec![input];
     }
-    let mut rest = input;
-    let mut pieces = Vec::new();
-    while !rest.is_empty() && pieces.len() < 30 {
-        let (piece, further) = rest.split_at(random.between(1, rest.len().min(700) as u64) as usize);
-        pieces.push(piece);
-        rest = further;
-    }
-    pieces.push(rest);
-    pieces
-}
-
-/// Hands the input over. A program that has ended takes no more, which is no fault.
-fn hand_over(mut to: impl Write, input: &[u8], number: u64) {
-    for piece in pieces(input, number) {
-        if to.write_all(piece).and_then(|()| to.flush()).is_err() {
-            return;
-        }
-        if piece.len() < input.len() {
-            thread::sleep(Duration::from_micros(300));
-        }
-    }
+    drawn::cut(input, &mut Random::new(number, 0), 700)
 }
 
 /// What a command writes for an input, or why it has no answer.
@@ -119,7 +92,7 @@ fn output(command: &str, input: &[u8], number: u64) -> (Vec<u8>, Option<String>)
     let (stdin, mut stdout) = (child.stdin.take().unwrap(), child.stdout.take().unwrap());
     let (done, result) = channel();
     thread::scope(|scope| {
-        scope.spawn(move || hand_over(stdin, input, number));
+        scope.spawn(move || drawn::hand_over(stdin, &pieces(input, number)));
         scope.spawn(move || {
             let mut bytes = Vec::new();
             let read = stdout.read_to_end(&mut bytes);
@@ -184,20 +157,18 @@ fn compare(plan: &Plan, number: u64, coverage: &Mutex<Coverage>) -> Option<Diffe
     None
 }
 
-/// Compares inputs until none is left or one differs.
-fn work(plan: &Plan, next: &AtomicU64, coverage: &Mutex<Coverage>, found: &Mutex<Option<Difference>>) {
-    loop {
-        let number = next.fetch_add(1, Ordering::Relaxed);
-        if number >= plan.count || found.lock().unwrap().is_some() {
-            return;
-        }
-        if let Some(difference) = compare(plan, number, coverage) {
-            let mut found = found.lock().unwrap();
-            if found.as_ref().is_none_or(|other| difference.number < other.number) {
-                *found = Some(difference);
-            }
+/// Compares an input, unless one differs already: then there is nothing more to compare.
+fn look(plan: &Plan, number: u64, coverage: &Mutex<Coverage>, found: &Mutex<Option<Difference>>) -> bool {
+    if found.lock().unwrap().is_some() {
+        return false;
+    }
+    if let Some(difference) = compare(plan, number, coverage) {
+        let mut found = found.lock().unwrap();
+        if found.as_ref().is_none_or(|other| difference.number < other.number) {
+            *found = Some(difference);
         }
     }
+    true
 }
 
 fn keep(plan: &Plan, difference: &Difference) {
@@ -239,22 +210,9 @@ fn uncovered(coverage: &Coverage) -> Vec<&'static str> {
     REACHABLE.into_iter().filter(|name| !coverage.answers.contains_key(*name)).collect()
 }
 
-fn plan() -> Option<Plan> {
-    let mut arguments = std::env::args().skip(1);
-    let commands = [arguments.next()?, arguments.next()?];
-    let mut number = |default: u64| arguments.next().map_or(Some(default), |text| text.parse().ok());
-    let (seed, count, workers) = (number(1)?, number(3000)?, number(2)?);
-    let folder = arguments.next().unwrap_or_else(|| ".".to_string());
-    Some(Plan { commands, seed, count, workers, folder })
-}
-
 fn run(plan: &Plan) -> ExitCode {
-    let (next, coverage, found) = (AtomicU64::new(0), Mutex::default(), Mutex::new(None));
-    thread::scope(|scope| {
-        for _ in 0..plan.workers.max(1) {
-            scope.spawn(|| work(plan, &next, &coverage, &found));
-        }
-    });
+    let (coverage, found) = (Mutex::default(), Mutex::new(None));
+    drawn::each(plan, |number| look(plan, number, &coverage, &found));
     let coverage: Coverage = coverage.into_inner().unwrap();
     print_coverage(&coverage);
     let uncovered = uncovered(&coverage);
@@ -270,7 +228,7 @@ fn run(plan: &Plan) -> ExitCode {
 }
 
 fn main() -> ExitCode {
-    match plan() {
+    match drawn::plan(3000) {
         Some(plan) => run(&plan),
         None => {
             eprintln!("compare FIRST SECOND [SEED [COUNT [WORKERS [FOLDER]]]]");

@@ -7,17 +7,19 @@
 mod draw;
 mod edges;
 
+#[path = "../drawn.rs"]
+mod drawn;
 #[path = "../random.rs"]
 mod random;
 
 use draw::Drawn;
+use drawn::Plan;
 use random::Random;
 use std::collections::BTreeMap;
 use std::ffi::OsStr;
-use std::io::{Read, Write};
+use std::io::Read;
 use std::os::unix::ffi::OsStrExt;
 use std::process::{Child, Command, ExitCode, Stdio};
-use std::sync::atomic::{AtomicU64, Ordering};
 use std::sync::mpsc::{channel, RecvTimeoutError};
 use std::sync::Mutex;
 use std::thread;
@@ -34,15 +36,6 @@ const PATIENCE: Duration = Duration::from_secs(60);
 
 /// How many differences are told.
 const TOLD: usize = 3;
-
-struct Plan {
-    commands: [String; 2],
-    edges: Vec<Drawn>,
-    seed: u64,
-    count: u64,
-    workers: u64,
-    folder: String,
-}
 
 /// What a program wrote: standard output and standard error, or why there is no answer.
 struct Answer {
@@ -82,26 +75,7 @@ fn pieces(export: &[u8], number: u64) -> Vec<&[u8]> {
     }
     let mut random = Random::new(number, 0);
     let longest = random.pick(&[10, 700, 70_000]);
-    let (mut rest, mut pieces) = (export, Vec::new());
-    while !rest.is_empty() && pieces.len() < 30 {
-        let (piece, further) = rest.split_at(random.between(1, rest.len().min(longest) as u64) as usize);
-        pieces.push(piece);
-        rest = further;
-    }
-    pieces.push(rest);
-    pieces
-}
-
-/// Hands the export over. A program that has ended takes no more, which is no fault.
-fn hand_over(mut to: impl Write, export: &[u8], number: u64) {
-    for piece in pieces(export, number) {
-        if to.write_all(piece).and_then(|()| to.flush()).is_err() {
-            return;
-        }
-        if piece.len() < export.len() {
-            thread::sleep(Duration::from_micros(300));
-        }
-    }
+    drawn::cut(export, &mut random, longest)
 }
 
 fn read_all(mut from: impl Read) -> Vec<u8> {
@@ -116,7 +90,7 @@ fn answer(command: &str, drawn: &Drawn, number: u64) -> Answer {
     let (stdin, stdout, stderr) = (child.stdin.take(), child.stdout.take(), child.stderr.take());
     let (done, result) = channel();
     thread::scope(|scope| {
-        scope.spawn(|| hand_over(stdin.unwrap(), &export, number));
+        scope.spawn(|| drawn::hand_over(stdin.unwrap(), &pieces(&export, number)));
         let errors = scope.spawn(|| read_all(stderr.unwrap()));
         scope.spawn(move || done.send(read_all(stdout.unwrap())));
         let output = result.recv_timeout(PATIENCE);
@@ -165,8 +139,8 @@ fn number_of(output: &[u8]) -> Option<u32> {
     }
 }
 
-fn compare(plan: &Plan, number: u64, found: &Mutex<Found>) {
-    let drawn = plan.edges.get(number as usize).cloned().unwrap_or_else(|| draw::drawn(plan.seed, number));
+fn compare(plan: &Plan, edges: &[Drawn], number: u64, found: &Mutex<Found>) {
+    let drawn = edges.get(number as usize).cloned().unwrap_or_else(|| draw::drawn(plan.seed, number));
     let answers = [0, 1].map(|which| answer(&plan.commands[which], &drawn, number));
     let what = judge(number, &answers);
     let mut found = found.lock().unwrap();
@@ -177,16 +151,6 @@ fn compare(plan: &Plan, number: u64, found: &Mutex<Found>) {
     match what {
         Some(what) => found.differences.push(Difference { number, what, drawn, answers }),
         None => found.same += 1,
-    }
-}
-
-fn work(plan: &Plan, next: &AtomicU64, found: &Mutex<Found>) {
-    loop {
-        let number = next.fetch_add(1, Ordering::Relaxed);
-        if number >= plan.count {
-            return;
-        }
-        compare(plan, number, found);
     }
 }
 
@@ -215,21 +179,11 @@ fn tell(plan: &Plan, difference: &Difference) {
     }
 }
 
-fn plan() -> Option<Plan> {
-    let mut arguments = std::env::args().skip(1);
-    let commands = [arguments.next()?, arguments.next()?];
-    let mut number = |default: u64| arguments.next().map_or(Some(default), |text| text.parse().ok());
-    let (seed, count, workers) = (number(1)?, number(500)?, number(2)?);
-    let folder = arguments.next().unwrap_or_else(|| ".".to_string());
-    Some(Plan { commands, edges: edges::edges(), seed, count, workers, folder })
-}
-
 fn run(plan: &Plan) -> ExitCode {
-    let (next, found) = (AtomicU64::new(0), Mutex::default());
-    thread::scope(|scope| {
-        for _ in 0..plan.workers.max(1) {
-            scope.spawn(|| work(plan, &next, &found));
-        }
+    let (edges, found) = (edges::edges(), Mutex::default());
+    drawn::each(plan, |number| {
+        compare(plan, &edges, number, &found);
+        true
     });
     let mut found: Found = found.into_inner().unwrap();
     println!("{} exports, {} bytes", plan.count, found.bytes);
@@ -247,7 +201,7 @@ fn run(plan: &Plan) -> ExitCode {
 }
 
 fn main() -> ExitCode {
-    match plan() {
+    match drawn::plan(500) {
         Some(plan) => run(&plan),
         None => {
             eprintln!("compare FIRST SECOND [SEED [COUNT [WORKERS [FOLDER]]]]");

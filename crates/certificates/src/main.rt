@@ -1,8 +1,11 @@
 // The program `certificates`: DAY SERIAL... as arguments and an export of the store on standard input; on standard output the K lines, or one line X,
 // and on standard error the place of what was refused.
 ghost use mathlib.Core.Path.{_≡_};
-ghost use Prim.Native.Nat.{_+_, _≤_};
+ghost use mathlib.Core.Bool.{_||_};
+ghost use Prim.Native.Nat.{_+_, _-_, _≤_};
+ghost use lib.Dec.{ltb};
 ghost use lib.ListN.{length};
+ghost use Rattle.units.specs.Pick.{pick};
 ghost use Rattle.certificates.specs.Hearing.{Hears};
 use libc::EINTR;
 use libc::STDERR_FILENO;
@@ -70,11 +73,11 @@ struct Heard {
 }
 
 // How many more blocks may be read: none after the end or a failure. An interrupted read is made again.
-fn blocks_left(left: u64, got: isize, error: i32) -> u64
+fn blocks_left(left: u64, n: usize, again: bool) -> u64
     requires { ⌜ 1 ≤ left ⌝ }
-    ensures { λ r. ⌜ r + 1 ≤ left ⌝ }
+    ensures { λ r. ⌜ (r + 1 ≤ left) × (r ≡ pick (ltb 0 n || again) (left - 1) 0) ⌝ }
 {
-    if (0 < got) | ((got < 0) & (error == EINTR)) {
+    if (0 < n) | again {
         return left - 1;
     }
     0
@@ -95,7 +98,7 @@ fn hear(held: &mut [u8]) -> Heard
         let n = io::count(got, block);
         kept = kept.on(&block[..n], held);
         ok = 0 <= got;
-        left = blocks_left(left, got, error);
+        left = blocks_left(left, n, (got < 0) & (error == EINTR));
     }
     Heard { kept, ok }
 }

@@ -6,28 +6,51 @@ use mathlib.Core.Bool.{true, false}
 use mathlib.Core.List.{List, [], _∷_, _++_, append-nil}
 use lib.Dec.{eqb}
 use lib.ListN.{length, take, drop, length-append, length-take, length-replicate}
-use lib.Seq.{sets, length-take-le, take-all, take-append-le, take-append-add, sets-eq, take-at}
+use lib.Seq.{length-take-le, take-all, take-append-le, take-append-add, sets-eq, take-at}
 use borrow.Author.Tests.{eqb-true, eqb-false}
 use Rattle.units.specs.Pick.{pick}
 use Rattle.units.proofs.Every.{no-way}
 use Rattle.fields.specs.declared.cut.Carry.{Carry}
 use Rattle.fields.specs.Cut.{Holds, GoesOn, Ends, carryTop, carryStart, cutAt, emptied, heldWith, lineIn}
 use Rattle.fields.specs.Lines.{feedAt}
+use Rattle.fields.specs.Put.{put, putEnd}
 use Rattle.fields.specs.Text.{lineFeed, lacks}
 use Rattle.fields.proofs.Cases.{by-test, by-lt}
 use Rattle.fields.proofs.Lines.{feed-none, lines-off}
 use Rattle.fields.proofs.Puts.{put-room, end-room, put-long}
 use Rattle.fields.proofs.Texts.{lacks-append}
 
--- the first 601 bytes of a line and more
-cut : (p q : List ℕ) → take carryTop (p ++ q) ≡ take carryTop p ++ take (carryTop - length (take carryTop p)) q
-cut p q =
-    by-lt (length p) carryTop
-    (λ h. let z : carryTop ≡ length p + (carryTop - length p) = omega arith in rw (take-all carryTop p (omega arith)) (ap (λ (n : ℕ). take n (p ++ q)) z ∙ take-append-add p q (carryTop - length p)))
+-- THE FIRST BYTES of a stream, held in a buffer with room for them: more of it is put behind what is held, as long as it counts
+first-more : (top : ℕ) (p q : List ℕ) → take top (p ++ q) ≡ take top p ++ take (top - length (take top p)) q
+first-more top p q =
+    by-lt (length p) top
+    (λ h. let z : top ≡ length p + (top - length p) = omega arith in rw (take-all top p (omega arith)) (ap (λ (n : ℕ). take n (p ++ q)) z ∙ take-append-add p q (top - length p)))
     (λ h.
-    let n = length-take-le carryTop p h in
-    let z : carryTop - length (take carryTop p) ≡ 0 = omega arith in
-    take-append-le carryTop p q h ∙ rw z (sym (append-nil (take carryTop p))))
+    let n = length-take-le top p h in
+    let z : top - length (take top p) ≡ 0 = omega arith in
+    take-append-le top p q h ∙ rw z (sym (append-nil (take top p))))
+
+module _ (top len : ℕ) (buf p q : List ℕ) (room : top ≤ length buf) (l : len ≡ length (take top p)) (b : take len buf ≡ take top p) where
+  abbrev added : List ℕ
+  added = take (top - len) q
+
+  whole : take top (p ++ q) ≡ take top p ++ added
+  whole = rw l (first-more top p q)
+
+  fits : len + length added ≤ length buf
+  fits = let a = length-take top p in let n = length-take (top - len) q in omega arith
+
+  pub first-len : putEnd buf len (take (top - len) q) ≡ length (take top (p ++ q))
+  first-len = end-room buf len added fits ∙ rw whole (let a = length-append (take top p) added in omega arith)
+
+  pub first-bytes : take (putEnd buf len (take (top - len) q)) (put buf len (take (top - len) q)) ≡ take top (p ++ q)
+  first-bytes =
+      let f = fits in
+      let n = length-take-le len buf (omega arith) in
+      rw (end-room buf len added f, put-room buf len added f, sets-eq added buf len f)
+      (take-at (take len buf ++ added) (drop (len + length added) buf) (len + length added) (let a = length-append (take len buf) added in omega arith)
+      ∙ ap (λ (x : List ℕ). x ++ added) b
+      ∙ sym whole)
 
 cut-short : (p : List ℕ) → length (take carryTop p) ≤ carryTop
 cut-short p = let n = length-take carryTop p in omega arith
@@ -49,34 +72,16 @@ emptied-holds k p h = record { len = refl; size = h .size; bytes = refl }
 
 -- MORE BYTES HELD
 module _ (k : Carry) (p q : List ℕ) (h : Holds k p) where
-  abbrev added : List ℕ
-  added = take (carryTop - k .len) q
-
-  fits : k .len + length added ≤ length (k .bytes)
-  fits = let a = h .len in let b = h .size in let c = cut-short p in let n = length-take (carryTop - k .len) q in omega arith
-
-  whole : take carryTop (p ++ q) ≡ take carryTop p ++ added
-  whole = rw (h .len) (cut p q)
-
-  len-is : k .len + length added ≡ length (take carryTop (p ++ q))
-  len-is = let a = h .len in rw whole (let b = length-append (take carryTop p) added in omega arith)
-
-  bytes-are : take (k .len + length added) (sets (k .bytes) (k .len) added) ≡ take carryTop (p ++ q)
-  bytes-are =
-      let f = fits in
-      let n = length-take-le (k .len) (k .bytes) (omega arith) in
-      rw (sets-eq added (k .bytes) (k .len) f)
-      (take-at (take (k .len) (k .bytes) ++ added) (drop (k .len + length added) (k .bytes)) (k .len + length added) (let a = length-append (take (k .len) (k .bytes)) added in omega arith)
-      ∙ ap (λ (l : List ℕ). l ++ added) (h .bytes)
-      ∙ sym whole)
+  held-room : carryTop ≤ length (k .bytes)
+  held-room = let a = h .size in omega arith
 
   pub held-holds : Holds (heldWith k q) (p ++ q)
   unfolding heldWith
   held-holds =
       record {
-        len = end-room (k .bytes) (k .len) added fits ∙ len-is;
-        size = put-long (k .bytes) (k .len) added ∙ h .size;
-        bytes = rw (end-room (k .bytes) (k .len) added fits, put-room (k .bytes) (k .len) added fits) bytes-are;
+        len = first-len carryTop (k .len) (k .bytes) p q held-room (h .len) (h .bytes);
+        size = put-long (k .bytes) (k .len) (take (carryTop - k .len) q) ∙ h .size;
+        bytes = first-bytes carryTop (k .len) (k .bytes) p q held-room (h .len) (h .bytes);
       }
 
   -- THE LINE THAT IS READ begins as the whole line does

@@ -1,12 +1,13 @@
 -- The laws of putting bytes, and what the functions that put them need. Assumes nothing.
-use Prim.Native.Nat.{ℕ, suc, _+_, _≤_, _<_}
+use Prim.Native.Nat.{ℕ, suc, _+_, _-_, _≤_, _<_}
 use mathlib.Core.Path.{_≡_, refl, ap, _∙_}
-use mathlib.Core.List.{List, [], _∷_, _++_}
+use mathlib.Core.List.{List, [], _∷_, _++_, append-nil}
 use native.Mathlib.Omega.{arith}
 use native.Mathlib.Nat.{add-zero}
-use lib.ListN.{length, set, length-append}
-use lib.Seq.{sets, length-sets, set-comm}
+use lib.ListN.{length, set, take, drop, length-append, length-drop}
+use lib.Seq.{sets, length-sets, set-comm, take-all, drop-drop, drop-length}
 use borrow.Author.Tests.{le-leb, lt-leb}
+use borrow.Rule.Slice.PartMut.{midOf, postOf, putMid}
 use Rattle.fields.specs.Field.{spelled, limit}
 use Rattle.fields.specs.Put.{put, putEnd, written}
 use Rattle.fields.specs.declared.spelling.Spelling.{Spelling}
@@ -80,3 +81,13 @@ written-is sp n h = rw (le-leb n (limit sp) h)
 pub written-none : (sp : Spelling) (n : ℕ) → limit sp < n → written sp n ≡ []
 unfolding written
 written-none sp n h = rw (lt-leb n (limit sp) h)
+
+-- A PART OF A BUFFER THAT GOES TO ITS END, lent: what it is, and the buffer after it
+pub mid-rest : (n : ℕ) (l : List ℕ) → midOf n (length l - n) l ≡ drop n l
+mid-rest n l = take-all (length l - n) (drop n l) (let a = length-drop n l in omega arith)
+
+pub put-rest : (n : ℕ) (l w : List ℕ) → n ≤ length l → putMid n (length l - n) l w ≡ take n l ++ w
+put-rest n l w h = ap (λ (v : List ℕ). take n l ++ (w ++ v)) none ∙ ap (λ (v : List ℕ). take n l ++ v) (append-nil w)
+  where
+    none : postOf n (length l - n) l ≡ []
+    none = drop-drop (length l - n) n l ∙ ap (λ (k : ℕ). drop k l) (let z : n + (length l - n) ≡ length l = omega (arith, h) in z) ∙ drop-length l

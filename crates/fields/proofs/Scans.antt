@@ -9,12 +9,16 @@ use lib.Seq.{drop-cons}
 use lib.Dec.{eqb}
 use borrow.Author.Tests.{eq-eqb, ne-eqb, eqb-true}
 use Rattle.fields.specs.Text.{until, tabsIn, scanned}
+use Rattle.fields.specs.declared.text.Scan.{Scan}
 use Rattle.fields.proofs.Cases.{by-test}
 use Rattle.fields.proofs.Texts.{until-short}
 
 pub scan-within : (line : List ℕ) → scanned line .feed ≤ length line
 unfolding scanned
 scan-within line = until-short 10 line
+
+pub scan-inside : (line : List ℕ) (c : Scan) → c ≡ scanned line → c .feed ≤ length line
+scan-inside line c e = rw e (scan-within line)
 
 -- where the first line feed is the last byte, the line is what stands before it, and it
 pub feed-last : (cs : List ℕ) → length (until 10 cs) + 1 ≡ length cs → cs ≡ until 10 cs ++ (10 ∷ [])

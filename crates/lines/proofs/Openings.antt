@@ -18,7 +18,6 @@ use Rattle.fields.specs.declared.text.Scan.{Scan}
 use Rattle.fields.specs.Text.{until, firstField, laterFields, ends, tabsIn, scanned}
 use Rattle.fields.proofs.Cases.{by-lt, absurd-by}
 use Rattle.fields.proofs.Texts.{first-none, first-some, until-take, fields-count}
-use Rattle.fields.proofs.Scans.{scan-within}
 use Rattle.message.specs.declared.value.Message.{Message}
 use Rattle.lines.specs.declared.kind.Kind.{Kind}
 use Rattle.lines.specs.declared.kind.Found.{Found}
@@ -99,9 +98,6 @@ text-found s text fe f e h = rw (← fe, e) h
 pub text-tabs : (line : List ℕ) (c : Scan) → c ≡ scanned line → c .tabs ≡ tabsIn (take (c .feed) line)
 unfolding scanned
 text-tabs line c ce = rw (ce, until-take 10 line)
-
-pub scan-inside : (line : List ℕ) (c : Scan) → c ≡ scanned line → c .feed ≤ length line
-scan-inside line c ce = rw ce (scan-within line)
 
 module _ (s : Group) (line : List ℕ) (b : Bool) (r : Line) (be : b ≡ groupFits s) where
   pub line-group : not b ≡ true → r ≡ refusedLine NoRange → r ≡ readLine s line

@@ -34,10 +34,11 @@ use Rattle.controller.specs.Effects.{added, applied}
 use Rattle.controller.specs.Step.{carriedOut, readingChange}
 use Rattle.controller_laws.proofs.Adding.{adds-one, changes-none, not-one}
 use Rattle.fields.specs.Lines.{feedAt}
+use Rattle.fields.proofs.Puts.{mid-rest}
 use Rattle.session.specs.Feeding.{answerPut, doneLength, putText}
 use Rattle.session.specs.Serving.{AddedBy, goesOn, lineAnswer, lineRun, planLine, ran, runOf}
 use Rattle.session.specs.Turn.{verdictText}
-use Rattle.session.proofs.Both.{length-done, mid-rest}
+use Rattle.session.proofs.Both.{length-done}
 use Rattle.session.proofs.Repeating.{Going, Moves, kept-length, lent-length, stops, call-within, goes-lent, goes-quiet}
 use Rattle.session.proofs.Room.{put-short}
 

@@ -1,33 +1,23 @@
 -- Two texts put into a lent buffer, the second first: both where there is room for both, else nothing. Assumes nothing.
 use Prim.Native.Nat.{ℕ, _+_, _-_, _≤_, _<_}
 use mathlib.Core.Path.{_≡_, refl, sym, ap, _∙_}
-use mathlib.Core.List.{List, [], _++_, append-nil, append-assoc}
+use mathlib.Core.List.{List, _++_, append-assoc}
 use native.Mathlib.Omega.{arith}
 use lib.ListN.{length, take, drop, length-append, length-drop}
-use lib.Seq.{sets-eq, take-all, drop-drop, drop-at, take-at, length-take-le, drop-length}
+use lib.Seq.{sets-eq, drop-drop, drop-at, take-at, length-take-le}
 use borrow.Author.Tests.{lt-ltb, le-ltb}
-use borrow.Rule.Slice.PartMut.{midOf, postOf, putMid, put-same}
+use borrow.Rule.Slice.PartMut.{midOf, putMid, put-same}
 use Rattle.units.specs.declared.refusal.Refusal.{Refusal}
 use Rattle.units.specs.declared.refusal.Refusal.the-variants.{Room}
 use Rattle.units.specs.Pick.{pick}
 use Rattle.fields.specs.Put.{put}
 use Rattle.fields.proofs.Cases.{by-lt, absurd-by}
-use Rattle.fields.proofs.Puts.{put-room}
+use Rattle.fields.proofs.Puts.{put-room, mid-rest, put-rest}
 use Rattle.lines.specs.declared.write.Written.{Written}
 use Rattle.lines.specs.declared.write.Written.the-variants.{Done, Refused}
 use Rattle.lines.specs.Writing.{bufferOf}
 use Rattle.session.specs.Feeding.{doneLength}
 use Rattle.session.proofs.Writes.{Puts}
-
--- the rest of a list, as a part that is lent
-pub mid-rest : (n : ℕ) (l : List ℕ) → midOf n (length l - n) l ≡ drop n l
-mid-rest n l = take-all (length l - n) (drop n l) (let a = length-drop n l in omega arith)
-
-pub put-rest : (n : ℕ) (l w : List ℕ) → n ≤ length l → putMid n (length l - n) l w ≡ take n l ++ w
-put-rest n l w h = ap (λ (v : List ℕ). take n l ++ (w ++ v)) none ∙ ap (λ (v : List ℕ). take n l ++ v) (append-nil w)
-  where
-    none : postOf n (length l - n) l ≡ []
-    none = drop-drop (length l - n) n l ∙ ap (λ (k : ℕ). drop k l) (let z : n + (length l - n) ≡ length l = omega (arith, h) in z) ∙ drop-length l
 
 -- a text in a buffer with room, and with too little
 pub puts-room : (t before : List ℕ) → length t ≤ length before → Puts t before (t ++ drop (length t) before) (Done (length t))

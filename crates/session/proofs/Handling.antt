@@ -13,6 +13,7 @@ use Rattle.units.specs.Limits.{lineTop}
 use Rattle.units.proofs.Every.{and-left, and-right}
 use Rattle.fields.proofs.Cases.{by-lt}
 use Rattle.lines.specs.Writing.{bufferOf}
+use Rattle.fields.proofs.Puts.{mid-rest}
 use Rattle.session.specs.declared.feed.Fed.{Fed}
 use Rattle.session.specs.declared.feed.Session.{Session}
 use Rattle.session.specs.Booting.{inputOf}
@@ -24,7 +25,6 @@ use Rattle.session.specs.Pieces.Feeds.{none}
 use Rattle.session.specs.Repeat.{runOn}
 use Rattle.session.specs.Serving.{served, servedText}
 use Rattle.session.specs.Station.{station}
-use Rattle.session.proofs.Both.{mid-rest}
 use Rattle.session.proofs.Exact.{feeds-then, run-exact}
 use Rattle.session.proofs.Repeating.{Going, Moves, Moving, call-within, goes-lent, kept-length, lent-length, run-few, run-goes, stops}
 use Rattle.session.proofs.Room.{buffer-length, front-take}

@@ -10,8 +10,8 @@ use borrow.Rule.Slice.PartMut.{midOf, putMid}
 use Rattle.units.specs.Pick.{pick}
 use Rattle.fields.proofs.Cases.{by-test}
 use Rattle.lines.specs.Writing.{bufferOf}
+use Rattle.fields.proofs.Puts.{mid-rest, put-rest}
 use Rattle.session.specs.Repeat.{Run, stays, follows, runOn}
-use Rattle.session.proofs.Both.{mid-rest, put-rest}
 use Rattle.session.proofs.Room.{front}
 
 module _ {A : Type 0} (goes : List ℕ → ℕ → Bool) (step : A → List ℕ → ℕ → Run A) where

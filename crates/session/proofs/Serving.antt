@@ -23,6 +23,7 @@ use Rattle.controller.specs.declared.state.Controller.{Controller}
 use Rattle.controller.specs.Effects.{applied}
 use Rattle.controller.specs.Step.{carriedOut}
 use Rattle.fields.specs.declared.cut.Carry.{Carry}
+use Rattle.fields.proofs.Puts.{mid-rest, put-rest}
 use Rattle.session.specs.declared.feed.Fed.{Fed}
 use Rattle.session.specs.declared.feed.Session.{Session}
 use Rattle.session.specs.declared.run.Ran.{Ran}
@@ -37,7 +38,6 @@ use Rattle.session.specs.Repeat.{Run, runOn}
 use Rattle.session.specs.Serving.{firstText, goesOn, isRunning, lineRun, mayRun, planLine, ran, ranOn, runNext, served, servedText}
 use Rattle.session.specs.Turn.{Turn, hears, numbersIn, runningWith, turnBy, verdictText}
 use Rattle.session.proofs.Adding.{goes-whole, line-moves}
-use Rattle.session.proofs.Both.{mid-rest, put-rest}
 use Rattle.session.proofs.Exact.{fed-exact, feeds-then, first-all, first-fits, first-is, first-wrote, run-exact}
 use Rattle.session.proofs.Repeating.{run-few}
 use Rattle.session.proofs.Room.{buffer-length, call-wrote, done-room, fed-line, front, progress, text-line, took-few, wrote-few}

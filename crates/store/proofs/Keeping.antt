@@ -3,46 +3,13 @@ use Prim.Native.Nat.{ℕ, _+_, _-_, _≤_, min}
 use native.Mathlib.Omega.{arith}
 use mathlib.Core.Path.{_≡_, refl, sym, ap, _∙_}
 use mathlib.Core.List.{List, [], _∷_, _++_, append-nil, append-assoc, flatten}
-use lib.ListN.{length, take, drop, length-append, length-take}
-use lib.Seq.{sets, length-take-le, take-all, take-nil, take-append-le, take-append-add, sets-eq, take-at}
-use Rattle.fields.proofs.Cases.{by-lt}
-use Rattle.fields.proofs.Puts.{put-room, end-room, put-long}
+use lib.ListN.{length, take}
+use lib.Seq.{take-nil}
+use Rattle.fields.proofs.Carrying.{first-len, first-bytes}
+use Rattle.fields.proofs.Puts.{put-long}
 use Rattle.store.specs.declared.kept.Kept.{Kept}
 use Rattle.store.specs.Kept.{Keeps, bufferAll, keepTop, keptAll, keptBuffer, keptOn, keptPart, keptStart}
 use Rattle.store.proofs.Counting.{counts-start, counts-on}
-
--- the first bytes of an export and more of it
-take-more : (n : ℕ) (s t : List ℕ) → take n (s ++ t) ≡ take n s ++ take (n - length (take n s)) t
-take-more n s t =
-    by-lt (length s) n
-    (λ h. let z : n ≡ length s + (n - length s) = omega arith in rw (take-all n s (omega arith)) (ap (λ (m : ℕ). take m (s ++ t)) z ∙ take-append-add s t (n - length s)))
-    (λ h.
-    let m = length-take-le n s h in
-    let z : n - length (take n s) ≡ 0 = omega arith in
-    take-append-le n s t h ∙ rw z (sym (append-nil (take n s))))
-
--- more bytes put after those that are held
-module _ (n len : ℕ) (buf s t : List ℕ) (room : n ≤ length buf) (l : len ≡ length (take n s)) (b : take len buf ≡ take n s) where
-  abbrev added : List ℕ
-  added = take (min (length buf) n - len) t
-
-  fits : len + length added ≤ length buf
-  fits = let a = length-take n s in let c = length-take (min (length buf) n - len) t in omega arith
-
-  whole : take n (s ++ t) ≡ take n s ++ added
-  whole = let z : min (length buf) n - len ≡ n - length (take n s) = omega arith in rw z (take-more n s t)
-
-  len-is : len + length added ≡ length (take n (s ++ t))
-  len-is = rw whole (let a = length-append (take n s) added in omega arith)
-
-  bytes-are : take (len + length added) (sets buf len added) ≡ take n (s ++ t)
-  bytes-are =
-      let f = fits in
-      let m = length-take-le len buf (omega arith) in
-      rw (sets-eq added buf len f)
-      (take-at (take len buf ++ added) (drop (len + length added) buf) (len + length added) (let a = length-append (take len buf) added in omega arith)
-      ∙ ap (λ (x : List ℕ). x ++ added) b
-      ∙ sym whole)
 
 -- NOTHING KEPT
 pub keeps-start : (buf : List ℕ) → Keeps keptStart buf []
@@ -53,14 +20,16 @@ pub kept-long : (k : Kept) (block buf : List ℕ) → length (keptBuffer k block
 unfolding keptBuffer
 kept-long k block buf = put-long buf (k .len) (keptPart k block buf)
 
--- A BLOCK MORE KEPT
+-- A BLOCK MORE KEPT, as any first bytes of a stream are
+part-is : (k : Kept) (block buf : List ℕ) → keepTop ≤ length buf → keptPart k block buf ≡ take (keepTop - k .len) block
+part-is k block buf r = let z : min (length buf) keepTop - k .len ≡ keepTop - k .len = omega arith in ap (λ (n : ℕ). take n block) z
+
 pub keeps-on : (k : Kept) (buf s block : List ℕ) → keepTop ≤ length buf → Keeps k buf s → Keeps (keptOn k block buf) (keptBuffer k block buf) (s ++ block)
 unfolding keptOn keptBuffer
 keeps-on k buf s block r h =
-    let f = fits keepTop (k .len) buf s block r (h .len) (h .bytes) in
     record {
-      len = end-room buf (k .len) (keptPart k block buf) f ∙ len-is keepTop (k .len) buf s block r (h .len) (h .bytes);
-      bytes = rw (end-room buf (k .len) (keptPart k block buf) f, put-room buf (k .len) (keptPart k block buf) f) (bytes-are keepTop (k .len) buf s block r (h .len) (h .bytes));
+      len = rw (part-is k block buf r) (first-len keepTop (k .len) buf s block r (h .len) (h .bytes));
+      bytes = rw (part-is k block buf r) (first-bytes keepTop (k .len) buf s block r (h .len) (h .bytes));
       count = counts-on block (h .count);
     }
 

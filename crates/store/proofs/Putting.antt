@@ -2,13 +2,13 @@
 use Prim.Native.Nat.{ℕ, _+_, _-_, _*_, _≤_, _<_}
 use mathlib.Core.Path.{_≡_, refl, sym, ap, _∙_}
 use mathlib.Core.Bool.{true, false}
-use mathlib.Core.List.{List, [], _++_, append-assoc, append-nil}
+use mathlib.Core.List.{List, [], _++_, append-assoc}
 use native.Mathlib.Omega.{arith}
 use native.Mathlib.Numerals.{add-one}
 use lib.Dec.{ltb}
 use lib.ListN.{length, take, drop, length-append, length-drop}
-use lib.Seq.{sets-eq, take-all, drop-drop, drop-at, take-at, drop-length}
-use borrow.Rule.Slice.PartMut.{midOf, postOf, putMid}
+use lib.Seq.{sets-eq, drop-drop, drop-at, take-at}
+use borrow.Rule.Slice.PartMut.{midOf, putMid}
 use borrow.Author.Tests.{lt-ltb, le-ltb, le-leb}
 use Rattle.units.specs.declared.refusal.Refusal.{Refusal}
 use Rattle.units.specs.declared.refusal.Refusal.the-variants.{Room}
@@ -17,7 +17,7 @@ use Rattle.message.specs.declared.settings.Settings.{Settings}
 use Rattle.message.specs.Settings.{settingsFit}
 use Rattle.fields.specs.Put.{put}
 use Rattle.fields.proofs.Cases.{absurd-by}
-use Rattle.fields.proofs.Puts.{put-room}
+use Rattle.fields.proofs.Puts.{put-room, mid-rest, put-rest}
 use Rattle.lines.specs.declared.write.Written.{Written}
 use Rattle.lines.specs.declared.write.Written.the-variants.{Done as Wrote, Refused as Unwritten}
 use Rattle.lines.specs.Lists.{joined}
@@ -54,16 +54,6 @@ module _ (s : Settings) (i : ℕ) (out d : List ℕ) (a : Written) (pre : (setti
   -- it is never refused
   pub one-never : {A : Type 0} (why : Refusal) → a ≡ Unwritten why → A
   one-never why q = absurd-by (let x = sym q ∙ is-done in cc)
-
--- a part of a buffer that goes to its end
-mid-rest : (n : ℕ) (l : List ℕ) → midOf n (length l - n) l ≡ drop n l
-mid-rest n l = take-all (length l - n) (drop n l) (let a = length-drop n l in omega arith)
-
-put-rest : (n : ℕ) (l w : List ℕ) → n ≤ length l → putMid n (length l - n) l w ≡ take n l ++ w
-put-rest n l w h = ap (λ (v : List ℕ). take n l ++ (w ++ v)) none ∙ ap (λ (v : List ℕ). take n l ++ v) (append-nil w)
-  where
-    none : postOf n (length l - n) l ≡ []
-    none = drop-drop (length l - n) n l ∙ ap (λ (k : ℕ). drop k l) (let z : n + (length l - n) ≡ length l = omega (arith, h) in z) ∙ drop-length l
 
 -- LINE AFTER LINE: what is put after i of them
 joined-none : (f : ℕ → List ℕ) → joined f 0 ≡ []

@@ -21,7 +21,6 @@ use Rattle.fields.specs.Day.{dateFits, dayJudged, dayIn, dayAt}
 use Rattle.fields.specs.Field.{fits, judge, readField, readAt}
 use Rattle.fields.specs.Text.{until, fieldsOf, fieldAt, nextAt, scanned, tabsIn}
 use Rattle.fields.proofs.Cases.{by-test}
-use Rattle.fields.proofs.Scans.{scan-within}
 use Rattle.fields.proofs.Texts.{cursor-field, cursor-more, until-take, fields-count}
 use Rattle.lines.specs.Settling.{certificateOf}
 use Rattle.store.specs.declared.name.Named.{Named}
@@ -152,7 +151,3 @@ module _ (line : List ℕ) (r : Entry) where
           let q : length (fieldsOf (until 10 line)) ≡ 4 = omega arith in
           rw (le-leb (length line) 600 l, is-ended, eq-eqb (length (fieldsOf (until 10 line))) 4 q)
           (e ∙ ap rowAt (ap (λ (n : ℕ). take n line) feed-is ∙ until-take 10 line) ∙ row-same (until 10 line) q)
-
--- the line feed stands within the line, or is its length
-pub feed-within : (line : List ℕ) (c : Scan) → c ≡ scanned line → c .feed ≤ length line
-feed-within line c e = rw e (scan-within line)

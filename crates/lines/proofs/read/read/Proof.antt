@@ -1,5 +1,6 @@
 -- `read` meets its contract. Assumes nothing.
-use Rattle.lines.proofs.Openings.{line-group, line-long, line-unended, text-tabs, line-text, scan-inside}
+use Rattle.fields.proofs.Scans.{scan-inside}
+use Rattle.lines.proofs.Openings.{line-group, line-long, line-unended, text-tabs, line-text}
 use native.Mathlib.Omega.{arith}
 use lib.Seq.{length-take-le}
 use mathlib.Core.Path.{sym}

@@ -1,5 +1,6 @@
 -- `read_seen` meets its contract. Assumes nothing.
-use Rattle.lines.proofs.Openings.{line-group, text-tabs, scan-inside}
+use Rattle.fields.proofs.Scans.{scan-inside}
+use Rattle.lines.proofs.Openings.{line-group, text-tabs}
 use Rattle.lines.proofs.Firsts.{first-long, first-unended, first-over, first-text}
 use native.Mathlib.Omega.{arith}
 use lib.Seq.{length-take-le}

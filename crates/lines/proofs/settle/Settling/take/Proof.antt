@@ -4,7 +4,8 @@ use mathlib.Core.Path.{sym, ap, _∙_}
 use lib.Seq.{length-take-le}
 use Rattle.lines.specs.Settling.{settleText}
 use Rattle.lines.proofs.Settlings.{line-over, line-open, line-text, scan-open, scan-ended, scan-text}
-use Rattle.lines.proofs.Openings.{text-tabs, scan-inside}
+use Rattle.fields.proofs.Scans.{scan-inside}
+use Rattle.lines.proofs.Openings.{text-tabs}
 use borrow.Author.Needs.{needs}
 use Rattle.lines.proofs.settle.Settling.take.Statement.{statement}
 use Rattle.lines.proofs.settle.Settling.take.Tie as tie
