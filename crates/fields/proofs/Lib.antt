@@ -13,5 +13,6 @@ pub mod Carrying
 pub mod Holding
 -- what the functions' proofs need, and no caller's
 mod Reading
+mod Positions
 mod Quicks
 mod Writing

@@ -1,5 +1,5 @@
 -- What the functions that read a field need, over plain lists and numbers. Assumes nothing.
-use Prim.Native.Nat.{ℕ, suc, _+_, _-_, _*_, _^_, _≤_, _<_}
+use Prim.Native.Nat.{ℕ, _+_, _-_, _*_, _^_, _≤_, _<_}
 use mathlib.Core.Path.{_≡_, refl, sym, ap, _∙_}
 use mathlib.Core.List.{List, [], _∷_, _++_, append-nil}
 use mathlib.Core.Bool.{Bool, true, false, not, _&&_}
@@ -8,20 +8,20 @@ use native.Mathlib.Numerals.{add-one}
 use native.Mathlib.Nat.{pow-suc, pow-le-pow-right, mul-le-mul-left, mul-assoc}
 use lib.ListN.{length, getD, take, drop, length-append, length-take, length-drop, drop-of-length-le, take-append-drop}
 use lib.Seq.{drop-cons, drop-drop, getD-take, getD-drop, take-all}
-use lib.Dec.{eqb, ltb, leb, lit<, eqb·suc-suc}
+use lib.Dec.{eqb, ltb, leb, lit<}
 use borrow.Author.Tests.{lt-ltb, le-ltb, ltb-true, eq-eqb, ne-eqb, eqb-true, eqb-false, le-leb, lt-leb, not-true, not-false}
-use Rattle.units.specs.Limits.{labelTop, factorDigits}
+use Rattle.units.specs.Limits.{labelTop}
 use Rattle.units.proofs.Every.{and-left, and-right}
 use Rattle.fields.specs.Digits.{pick, digitOf, digitsAt, valueFrom, fixedIn}
 use Rattle.fields.specs.Text.{until, firstField, lacks, ends, starts, fieldAt, nextAt}
-use Rattle.fields.specs.Field.{plain, decimalSaid, factorSaid, saidBy, fits, judge, readField, readAt}
+use Rattle.fields.specs.Field.{plain, decimalSaid, saidBy, fits, judge, readField, readAt}
 use Rattle.fields.specs.Day.{dayJudged, dayIn, dayAt}
 use Rattle.fields.specs.declared.digit.Digits.{Digits}
 use Rattle.fields.specs.declared.digit.Digits.the-variants.{Said, Wrong}
 use Rattle.fields.specs.declared.field.Field.{Field}
 use Rattle.fields.specs.declared.field.Field.the-variants.{Form}
 use Rattle.fields.specs.declared.spelling.Spelling.{Spelling}
-use Rattle.fields.specs.declared.spelling.Spelling.the-variants.{Decimal, Hex4, Hex16, Factor}
+use Rattle.fields.specs.declared.spelling.Spelling.the-variants.{Decimal, Hex4, Hex16}
 use Rattle.fields.proofs.Cases.{by-test, by-lt, absurd-by}
 use Rattle.fields.proofs.Numbers.{digit-above}
 use Rattle.fields.proofs.Texts.{until-take, until-append, first-none, first-some, field-next}
@@ -182,7 +182,7 @@ hex-room k h = let p = pow-le-pow-right {n = 16} (lit< tt) {i = k} {j = 16} h in
 pub hex-within : (text : List ℕ) (at k n : ℕ) (d : Digits) → 0 < k → d ≡ fixedIn 16 k 0 (take k (drop at text)) → d ≡ Said n → at + k ≤ length text
 hex-within text at k n d p q e = said-within text at 16 k 0 n p (sym q ∙ e)
 
-judged-wrong : (sp : Spelling) (low high next : ℕ) (d : Digits) → d ≡ Wrong → Form ≡ judge sp low high next d
+pub judged-wrong : (sp : Spelling) (low high next : ℕ) (d : Digits) → d ≡ Wrong → Form ≡ judge sp low high next d
 unfolding judge
 judged-wrong sp low high next d e = rw e
 
@@ -199,104 +199,6 @@ module _ (text : List ℕ) (at k : ℕ) (sp : Spelling) (low high : ℕ) where
         let s : ends (drop k (drop at text)) ≡ true = rw (drop-drop k at text) (sym q ∙ t) in
         let l = field-long 16 k 0 (drop at text) (omega arith) n (sym p ∙ e) s in
         rw (l, field-said 16 k 0 (drop at text) (omega arith) n (sym p ∙ e) s) j
-
--- `read_factor`
-digit-one : (c : ℕ) (cs : List ℕ) (w : ℕ) → fixedIn 10 1 0 (take 1 (c ∷ cs)) ≡ Said w → (digitOf c < 10) × (w ≡ digitOf c)
-unfolding fixedIn valueFrom
-digit-one c cs w =
-    by-test (ltb (digitOf c) 10)
-    (λ t. rw t (λ e. let q : 0 * 10 + digitOf c ≡ w = cc in (ltb-true (digitOf c) 10 t, omega arith)))
-    (λ t. rw t (λ e. absurd-by (cc)))
-
-digit-small : (cs : List ℕ) (w : ℕ) → fixedIn 10 1 0 (take 1 cs) ≡ Said w → w < 10
-unfolding fixedIn
-digit-small [] w e = absurd-by (cc)
-digit-small (c ∷ cs) w e = let (l, q) = digit-one c cs w e in omega arith
-
-factor-first : (c : ℕ) (cs : List ℕ) → valueFrom 10 0 (c ∷ []) ≡ Wrong → factorSaid (c ∷ cs) ≡ Wrong
-unfolding valueFrom fixedIn factorSaid
-factor-first c [] = λ e. refl
-factor-first c (p ∷ cs) =
-    by-test (ltb (digitOf c) 10) (λ t. rw t (λ e. absurd-by (cc)))
-    (λ t. rw t (λ e. by-test (eqb p 46) (λ u. rw u (by-test (eqb (length (c ∷ cs)) (suc factorDigits)) (λ v. rw v) (λ v. rw v))) (λ u. rw u)))
-
-factor-digit : (cs : List ℕ) → fixedIn 10 1 0 (take 1 cs) ≡ Wrong → factorSaid (firstField cs) ≡ Wrong
-unfolding fixedIn factorSaid until
-factor-digit [] e = refl
-factor-digit (c ∷ cs) e = by-test (eqb c 9) (λ t. rw t) (λ t. rw t (factor-first c (firstField cs) e))
-
-first-digit : (c : ℕ) (cs : List ℕ) → digitOf c < 10 → firstField (c ∷ cs) ≡ c ∷ firstField cs
-unfolding until
-first-digit c cs l = let a = digit-above c (omega arith) in rw (ne-eqb c 9 (omega arith))
-
-no-point : (c : ℕ) (ps : List ℕ) → starts 46 ps ≡ false → factorSaid (c ∷ firstField ps) ≡ Wrong
-unfolding factorSaid until starts
-no-point c [] s = refl
-no-point c (p ∷ ps) s = by-test (eqb p 9) (λ t. rw t) (λ t. rw (t, s))
-
-factor-point : (cs : List ℕ) (w : ℕ) → fixedIn 10 1 0 (take 1 cs) ≡ Said w → starts 46 (drop 1 cs) ≡ false → factorSaid (firstField cs) ≡ Wrong
-unfolding fixedIn
-factor-point [] w e s = absurd-by (cc)
-factor-point (c ∷ cs) w e s = rw (first-digit c cs (digit-one c cs w e .0)) (no-point c cs s)
-
-digits-after : (c w : ℕ) (f : List ℕ) → digitOf c < 10 → w ≡ digitOf c → factorSaid (c ∷ 46 ∷ f) ≡ fixedIn 10 factorDigits w f
-unfolding factorSaid fixedIn valueFrom
-digits-after c w f l e =
-    let q : 0 * 10 + digitOf c ≡ w = omega arith in
-    rw (eqb·suc-suc (length f) factorDigits, lt-ltb (digitOf c) 10 l, q)
-
--- a digit and a point stand before the digits that are left
-factor-rest : (cs : List ℕ) (w : ℕ) → fixedIn 10 1 0 (take 1 cs) ≡ Said w → starts 46 (drop 1 cs) ≡ true
-    → (factorSaid (firstField cs) ≡ fixedIn 10 factorDigits w (firstField (drop 2 cs))) × (length (firstField cs) ≡ 2 + length (firstField (drop 2 cs)))
-unfolding fixedIn starts until
-factor-rest [] w e s = absurd-by (cc)
-factor-rest (c ∷ []) w e s = absurd-by (cc)
-factor-rest (c ∷ p ∷ cs) w e s =
-    let (l, q) = digit-one c (p ∷ cs) w e in
-    let z = eqb-true p 46 s in
-    let f : firstField (c ∷ p ∷ cs) ≡ c ∷ 46 ∷ firstField cs = first-digit c (p ∷ cs) l ∙ rw z in
-    (rw f (digits-after c w (firstField cs) l q), rw f (omega arith))
-
-pub factor-within : (text : List ℕ) (at w : ℕ) (d : Digits) → d ≡ fixedIn 10 1 0 (take 1 (drop at text)) → d ≡ Said w → at + 1 ≤ length text
-factor-within text at w d q e = said-within text at 10 1 0 w (lit< tt) (sym q ∙ e)
-
-pub whole-small : (text : List ℕ) (at w : ℕ) (d : Digits) → d ≡ fixedIn 10 1 0 (take 1 (drop at text)) → d ≡ Said w → w < 10
-whole-small text at w d q e = digit-small (drop at text) w (sym q ∙ e)
-
-module _ (text : List ℕ) (at low high : ℕ) (one : Digits) (p : one ≡ fixedIn 10 1 0 (take 1 (drop at text))) where
-  pub factor-none : one ≡ Wrong → Form ≡ readAt text at Factor low high
-  unfolding readAt readField saidBy
-  factor-none e = judged-wrong Factor low high (nextAt text at) _ (factor-digit (drop at text) (sym p ∙ e))
-
-  module _ (w : ℕ) (e : one ≡ Said w) (b : Bool) (q : b ≡ starts 46 (drop (at + 1) text)) where
-    pub factor-pointless : not b ≡ true → Form ≡ readAt text at Factor low high
-    unfolding readAt readField saidBy
-    factor-pointless t =
-        judged-wrong Factor low high (nextAt text at) _
-        (factor-point (drop at text) w (sym p ∙ e) (rw (drop-drop 1 at text) (sym q ∙ not-true b t)))
-
-    module _ (t : not b ≡ false) (two : Digits) (d : two ≡ fixedIn 10 factorDigits w (take factorDigits (drop (at + 2) text))) where
-      rest-is : (factorSaid (fieldAt text at) ≡ fixedIn 10 factorDigits w (fieldAt text (at + 2))) × (length (fieldAt text at) ≡ 2 + length (fieldAt text (at + 2)))
-      rest-is = rw (drop-drop 2 at text) at (factor-rest (drop at text) w (sym p ∙ e) (rw (drop-drop 1 at text) (sym q ∙ not-false b t)))
-
-      pub factor-digits : two ≡ Wrong → Form ≡ readAt text at Factor low high
-      unfolding readAt readField saidBy
-      factor-digits f = judged-wrong Factor low high (nextAt text at) _ (rest-is .0 ∙ field-wrong 10 factorDigits w (drop (at + 2) text) (omega arith) (sym d ∙ f))
-
-      module _ (n : ℕ) (f : two ≡ Said n) (z : Bool) (g : z ≡ ends (drop (at + 2 + factorDigits) text)) where
-        pub factor-long : z ≡ false → Form ≡ readAt text at Factor low high
-        unfolding readAt readField saidBy
-        factor-long u =
-            judged-wrong Factor low high (nextAt text at) _
-            (rest-is .0 ∙ field-more 10 factorDigits w (drop (at + 2) text) (omega arith) n (sym d ∙ f) (rw (drop-drop factorDigits (at + 2) text) (sym g ∙ u)))
-
-        pub factor-value : z ≡ true → (r : Field) → r ≡ judge Factor low high (at + 2 + factorDigits + 1) (Said n) → r ≡ readAt text at Factor low high
-        unfolding readAt readField saidBy
-        factor-value u r j =
-            let s : ends (drop factorDigits (drop (at + 2) text)) ≡ true = rw (drop-drop factorDigits (at + 2) text) (sym g ∙ u) in
-            let l = field-long 10 factorDigits w (drop (at + 2) text) (omega arith) n (sym d ∙ f) s in
-            let m : at + length (fieldAt text at) + 1 ≡ at + 2 + factorDigits + 1 = let x = rest-is .1 in omega arith in
-            rw (m, rest-is .0, field-said 10 factorDigits w (drop (at + 2) text) (omega arith) n (sym d ∙ f) s) j
 
 -- `read_decimal`: m is what the code holds, which no longer grows past the limit
 pub record Reading (f cs : List ℕ) (m : ℕ) : Type 0 where

@@ -1,22 +1,22 @@
 -- THE LAWS OF A FIELD, for every spelling: what is accepted is spelled in the one way, and what is spelled so is read back. Assumes nothing.
-use Prim.Native.Nat.{ℕ, zero, suc, _+_, _/_, _%_, _≤_, _<_}
+use Prim.Native.Nat.{ℕ, zero, suc, _+_, _*_, _/_, _%_, _≤_, _<_}
 use mathlib.Core.Path.{_≡_, refl, ap, _∙_}
 use mathlib.Core.List.{List, [], _∷_, _++_}
 use mathlib.Core.Bool.{true, _&&_}
 use native.Mathlib.Omega.{arith}
-use lib.ListN.{length, drop, length-append}
+use lib.ListN.{length, getD, drop, length-append}
 use lib.Dec.{eqb, leb, ltb, lit<, lit≤}
 use borrow.Author.Tests.{eqb-true, ne-eqb, leb-true, le-leb}
 use Rattle.units.specs.Limits.{factorDigits, factorLow, factorTop}
 use Rattle.units.proofs.Every.{and-left, and-right}
 use Rattle.fields.specs.Digits.{charOf, fixedIn, fixed, decimalIn, decimal, digitOf, valueFrom}
 use Rattle.fields.specs.Text.{lacks, ends, fieldAt, nextAt, until}
-use Rattle.fields.specs.Field.{factorSaid, saidBy, pointed, spelled, limit, fits, judge, readField, readAt}
+use Rattle.fields.specs.Field.{point, factorSaid, saidBy, pointed, spelled, limit, fits, judge, readField, readAt}
 use Rattle.fields.specs.declared.digit.Digits.{Digits}
 use Rattle.fields.specs.declared.digit.Digits.the-variants.{Said, Wrong}
 use Rattle.fields.specs.declared.spelling.Spelling.{Spelling}
 use Rattle.fields.specs.declared.spelling.Spelling.the-variants.{Decimal, Hex4, Hex16, Factor}
-use Rattle.fields.specs.declared.field.Field.the-variants.{Value, Form}
+use Rattle.fields.specs.declared.field.Field.the-variants.{Value, Form, Range}
 use Rattle.fields.proofs.Cases.{by-test, by-lt, absurd-by}
 use Rattle.fields.proofs.Numbers.{char-above, fixed-length, fixed-read, fixed-only, decimal-small, decimal-large, decimal-read, decimal-only, decimal-short}
 use Rattle.fields.proofs.Texts.{lacks-append, first-is}
@@ -183,3 +183,20 @@ read-back text at sp low high n rest d r f =
 pub read-factors : (readAt (49 ∷ 46 ∷ 48 ∷ 48 ∷ 52 ∷ 55 ∷ []) 0 Factor factorLow factorTop ≡ Value 10047 7) × (readAt (49 ∷ 46 ∷ 48 ∷ 48 ∷ []) 0 Factor factorLow factorTop ≡ Form)
 unfolding readAt readField judge fits saidBy factorSaid fixedIn valueFrom digitOf until
 read-factors = (refl, refl)
+
+-- 1.0047 ON PAPER (docs/FACTOR.md): what stands at each position, and the number formed of it as `factor_at` does
+abbrev pub paper : List ℕ
+paper = 49 ∷ 46 ∷ 48 ∷ 48 ∷ 52 ∷ 55 ∷ []
+
+pub paper-factor : (digitOf (getD paper 0 0) ≡ 1) × (getD paper 1 0 ≡ point) × (digitOf (getD paper 2 0) ≡ 0) × (digitOf (getD paper 3 0) ≡ 0) × (digitOf (getD paper 4 0) ≡ 4)
+    × (digitOf (getD paper 5 0) ≡ 7) × (ends (drop 6 paper) ≡ true)
+    × (10000 * digitOf (getD paper 0 0) + 1000 * digitOf (getD paper 2 0) + 100 * digitOf (getD paper 3 0) + 10 * digitOf (getD paper 4 0) + digitOf (getD paper 5 0) ≡ 10047)
+unfolding digitOf ends
+paper-factor = (refl, refl, refl, refl, refl, refl, refl, refl)
+
+-- 1.00 before a tab, 1.0o47 and 1.00470 for their form, 1.1001 for its range; a tab and the letter are no digits
+pub paper-refused : (digitOf 9 ≡ 16) × (readAt (49 ∷ 46 ∷ 48 ∷ 48 ∷ 9 ∷ 49 ∷ []) 0 Factor factorLow factorTop ≡ Form)
+    × (digitOf 111 ≡ 16) × (readAt (49 ∷ 46 ∷ 48 ∷ 111 ∷ 52 ∷ 55 ∷ []) 0 Factor factorLow factorTop ≡ Form)
+    × (readAt (49 ∷ 46 ∷ 48 ∷ 48 ∷ 52 ∷ 55 ∷ 48 ∷ []) 0 Factor factorLow factorTop ≡ Form) × (readAt (49 ∷ 46 ∷ 49 ∷ 48 ∷ 48 ∷ 49 ∷ []) 0 Factor factorLow factorTop ≡ Range)
+unfolding readAt readField judge fits saidBy factorSaid fixedIn valueFrom digitOf until
+paper-refused = (refl, refl, refl, refl, refl, refl)

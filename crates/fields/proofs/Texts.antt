@@ -1,12 +1,12 @@
 -- The laws of a text's fields: splitting gives back what tabs joined, and a cursor goes through them one after the other. Assumes nothing.
-use Prim.Native.Nat.{ℕ, suc, _+_, _-_, _≤_, _<_}
+use Prim.Native.Nat.{ℕ, suc, _+_, _≤_, _<_}
 use mathlib.Core.Path.{_≡_, refl, sym, ap, _∙_}
 use mathlib.Core.List.{List, [], _∷_, _++_, append-assoc, append-nil}
 use mathlib.Core.Bool.{true, false}
 use native.Mathlib.Omega.{arith}
 use native.Mathlib.Numerals.{add-one}
 use lib.ListN.{length, getD, take, drop, length-drop}
-use lib.Seq.{drop-cons, drop-drop, getD-drop}
+use lib.Seq.{drop-cons, drop-drop, getD-take, getD-drop}
 use lib.Dec.{eqb}
 use borrow.Author.Tests.{ne-eqb, eqb-true}
 use Rattle.units.proofs.Every.{and-left, and-right}
@@ -57,6 +57,19 @@ pub first-some : (cs : List ℕ) → ends cs ≡ false → 0 < length (firstFiel
 unfolding until ends
 first-some [] e = absurd-by (cc)
 first-some (c ∷ cs) e = rw e (omega arith)
+
+-- a field ends before a tab or the end
+pub first-ends : (cs : List ℕ) → ends (drop (length (firstField cs)) cs) ≡ true
+unfolding until ends
+first-ends [] = refl
+first-ends (c ∷ cs) = by-test (eqb c 9) (λ t. rw t t) (λ t. rw t (first-ends cs))
+
+-- its bytes are those of the text
+pub field-byte : (text : List ℕ) (at k : ℕ) → k < length (fieldAt text at) → getD (fieldAt text at) k 0 ≡ getD text (at + k) 0
+field-byte text at k h =
+    ap (λ (f : List ℕ). getD f k 0) (sym (until-take 9 (drop at text)))
+    ∙ getD-take (length (fieldAt text at)) (drop at text) k 0 h
+    ∙ getD-drop at text k 0
 
 -- one byte that is no tab
 pub field-next : (text : List ℕ) (i : ℕ) → i < length text → (getD text i 0 ≡ 9 → ⊥) → fieldAt text i ≡ getD text i 0 ∷ fieldAt text (i + 1)
