@@ -2,6 +2,7 @@
 
 use crate::random::Random;
 use std::io::Write;
+use std::process::ExitCode;
 use std::sync::atomic::{AtomicU64, Ordering};
 use std::thread;
 use std::time::Duration;
@@ -15,14 +16,25 @@ pub struct Plan {
     pub folder: String,
 }
 
-/// The plan that the arguments say: `FIRST SECOND [SEED [COUNT [WORKERS [FOLDER]]]]`.
-pub fn plan(count: u64) -> Option<Plan> {
+/// The plan that the arguments say.
+fn plan(count: u64) -> Option<Plan> {
     let mut arguments = std::env::args().skip(1);
     let commands = [arguments.next()?, arguments.next()?];
     let mut number = |default: u64| arguments.next().map_or(Some(default), |text| text.parse().ok());
     let (seed, count, workers) = (number(1)?, number(count)?, number(2)?);
     let folder = arguments.next().unwrap_or_else(|| ".".to_string());
     Some(Plan { commands, seed, count, workers, folder })
+}
+
+/// Runs a comparison by the plan that the arguments say, with so many inputs where they say nothing else.
+pub fn by_arguments(count: u64, run: impl FnOnce(&Plan) -> ExitCode) -> ExitCode {
+    match plan(count) {
+        Some(plan) => run(&plan),
+        None => {
+            eprintln!("compare FIRST SECOND [SEED [COUNT [WORKERS [FOLDER]]]]");
+            ExitCode::from(2)
+        }
+    }
 }
 
 /// Has each input looked at once, by all workers together, up to the first look that says to stop.

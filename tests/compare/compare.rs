@@ -228,11 +228,5 @@ fn run(plan: &Plan) -> ExitCode {
 }
 
 fn main() -> ExitCode {
-    match drawn::plan(3000) {
-        Some(plan) => run(&plan),
-        None => {
-            eprintln!("compare FIRST SECOND [SEED [COUNT [WORKERS [FOLDER]]]]");
-            ExitCode::from(2)
-        }
-    }
+    drawn::by_arguments(3000, run)
 }

@@ -201,11 +201,5 @@ fn run(plan: &Plan) -> ExitCode {
 }
 
 fn main() -> ExitCode {
-    match drawn::plan(500) {
-        Some(plan) => run(&plan),
-        None => {
-            eprintln!("compare FIRST SECOND [SEED [COUNT [WORKERS [FOLDER]]]]");
-            ExitCode::from(2)
-        }
-    }
+    drawn::by_arguments(500, run)
 }

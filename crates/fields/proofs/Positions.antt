@@ -41,17 +41,17 @@ said-other (c ∷ []) h = refl
 said-other (c ∷ p ∷ g) h = rw (ne-eqb (length (c ∷ g)) (suc factorDigits) (λ e. h (omega arith))) (either-wrong (eqb p 46))
 
 -- no digit at a position other than 1
-digits-wrong : (c p : ℕ) (g : List ℕ) (i : ℕ) → i < length (c ∷ g) → 9 < digitOf (getD (c ∷ g) i 0) → factorSaid (c ∷ p ∷ g) ≡ Wrong
+among-wrong : (c p : ℕ) (g : List ℕ) (i : ℕ) → i < length (c ∷ g) → 9 < digitOf (getD (c ∷ g) i 0) → factorSaid (c ∷ p ∷ g) ≡ Wrong
 unfolding factorSaid fixedIn
-digits-wrong c p g i h w = rw (value-wrong 0 (c ∷ g) i h w, either-wrong (eqb (length (c ∷ g)) (suc factorDigits))) (either-wrong (eqb p 46))
+among-wrong c p g i h w = rw (value-wrong 0 (c ∷ g) i h w, either-wrong (eqb (length (c ∷ g)) (suc factorDigits))) (either-wrong (eqb p 46))
 
 said-digit : (f : List ℕ) (k : ℕ) → k < length f → (k ≡ 1 → ⊥) → 9 < digitOf (getD f k 0) → factorSaid f ≡ Wrong
 unfolding factorSaid
 said-digit [] k h n w = refl
 said-digit (c ∷ []) k h n w = refl
-said-digit (c ∷ p ∷ g) zero h n w = digits-wrong c p g 0 (omega arith) w
+said-digit (c ∷ p ∷ g) zero h n w = among-wrong c p g 0 (omega arith) w
 said-digit (c ∷ p ∷ g) (suc zero) h n w = absurd (n refl)
-said-digit (c ∷ p ∷ g) (suc (suc j)) h n w = digits-wrong c p g (suc j) (omega arith) w
+said-digit (c ∷ p ∷ g) (suc (suc j)) h n w = among-wrong c p g (suc j) (omega arith) w
 
 -- no point at position 1
 said-point : (f : List ℕ) → (getD f 1 0 ≡ 46 → ⊥) → factorSaid f ≡ Wrong

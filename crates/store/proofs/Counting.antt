@@ -94,10 +94,6 @@ unfolding countedOn
 counts-on {s = s} [] h = rw (append-nil s) h
 counts-on {k = k} {s = s} (b ∷ t) h = rw (append-assoc s (b ∷ []) t) at (counts-on t (counts-byte k s b h))
 
--- ALL LINES OF AN EXPORT
-pub count-all : (export : List ℕ) → countedOn countStart export .lines ≡ min (rowsTop + 1) (length (linesOf export))
-count-all export = counts-on export counts-start .lines
-
 -- a count is above 512 exactly when the lines are
 module _ {k : Count} {export : List ℕ} (h : Counts k export) where
   pub counts-many : rowsTop < k .lines → rowsTop < length (linesOf export)
