@@ -42,7 +42,7 @@ pub const SESSION: &str = "G\t2\t2\nN\t1\t300\t99\nK\t0\tC-101\t1.0047\t3\nK\t1\
     M\t1\t0\t200000\nM\t1\t1\t199060\nE\t1\nF\t1\nA\t1\t0\nM\t1\t0\t5\n";
 
 /// Short inputs that are always compared.
-const FIXED: [&str; 15] = [
+const FIXED: [&str; 17] = [
     SESSION,
     "",
     "\n",
@@ -57,10 +57,12 @@ const FIXED: [&str; 15] = [
     "G\t1\t1\r\nN\t1\t1\t1\r\nK\t0\ta\t1.0000\t1\r\n",
     // A weight just past its limit.
     "G\t1\t1\nN\t1\t1\t1\nK\t0\ta\t1.0000\t1001\nB\t0\t0\nM\t1\t0\t5\nE\t1\nF\t1\n",
-    // As many measurements: the state label comes before the mask, so (1,4) wins over (2,3).
-    "G\t2\t2\nN\t1\t300\t99\nK\t0\ta\t1.0000\t1\nK\t1\tb\t1.0000\t1\nB\t0\t0\n\
-    U\t1\t4\t0000000000000000\t0000000000000000\t0000000000000000\t0000000000000000\n\
-    M\t5\t0\t7\nE\t5\nF\t5\nD\t1\t5\t3\t0002\n",
+    // The state label comes before the number of measurements, so (2,4) and (1,4) win over (3,2).
+    include_str!("../v5.txt"),
+    include_str!("../v10.txt"),
+    // From one state: the number of measurements comes before the mask, so (3,0) wins over (4,0), and is not here.
+    "G\t2\t3\nN\t1\t300\t99\nK\t0\ta\t1.0000\t1\nK\t1\tb\t1.0000\t1\nK\t2\tc\t1.0000\t1\nB\t0\t4\n\
+    M\t5\t2\t7\nE\t5\nF\t5\nD\t1\t5\t0\t0003\n",
     // One run, whose target by its quotient would be past the total.
     "G\t2\t1\nN\t1\t300\t99\nK\t0\ta\t1.0047\t3\nB\t0\t0\nU\t1\t4\t4108876809A02752\t0000000000000000\n\
     M\t5\t0\t200001\nE\t5\nF\t5\n",

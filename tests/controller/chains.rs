@@ -14,7 +14,7 @@ const FACTORS: [u32; M] = [10047, 9000, 11000];
 const WEIGHTS: [u32; M] = [3, 1, 1000];
 
 /// The chain: a kind, up to four values, and what it is there for.
-const CHAIN: [(&str, [u32; 4]); 106] = [
+const CHAIN: [(&str, [u32; 4]); 111] = [
     ("M", [1, 0, 200000, 0]), // a first round
     ("C", [1, 0, 0, 0]),      // asks for two runs, no A: the state is label - 1
     ("R", [1, 1, 6, 500]),    // runs 1 and 2
@@ -114,12 +114,17 @@ const CHAIN: [(&str, [u32; 4]); 106] = [
     ("M", [1, 0, 0, 0]),   // a round of noughts
     ("E", [1, 0, 0, 0]),
     ("D", [0, 1, 0, 1]),
-    ("F", [1, 0, 0, 0]),                // decided: S of noughts
+    ("F", [1, 0, 0, 0]),   // decided: S of noughts
+    ("M", [5, 1, 600, 0]), // a round that a tie decides
+    ("E", [5, 0, 0, 0]),
+    ("F", [5, 0, 0, 0]),                // our vote: run 1 on the state of 1
+    ("D", [0, 5, 0, 7]),                // all runs on the empty state: undecided
+    ("D", [2, 5, 1, 1]),                // a tie of three: the fresher state, then the larger mask, S
     ("M", [4294967295, 2, 1000000, 0]), // the last label
     ("C", [4294967295, 0, 0, 0]),
     ("E", [4294967295, 0, 0, 0]),
     ("F", [4294967295, 0, 0, 0]),
-    ("D", [0, 4294967295, 1, 4]), // two of three: S
+    ("D", [0, 4294967295, 5, 4]), // two of three: S
     ("M", [4294967295, 0, 5, 0]), // late
 ];
 
@@ -224,11 +229,16 @@ enum Phase {
     Voting,
 }
 
-/// A digest as it is ordered: the number of measurements, the state label, the mask as a number.
-type Digest = (u32, u32, u32);
+/// A digest, with its parts in the order that digests go by: the state label, the number of measurements, the mask as a number.
+#[derive(Clone, Copy, PartialEq, Eq, PartialOrd, Ord)]
+struct Digest {
+    state: u32,
+    measurements: u32,
+    mask: u32,
+}
 
 fn digest(state: u32, mask: u32) -> Digest {
-    (mask.count_ones(), state, mask)
+    Digest { state, measurements: mask.count_ones(), mask }
 }
 
 #[derive(Clone, PartialEq)]
@@ -421,7 +431,7 @@ impl Controller {
             "F" => {
                 self.phase = Phase::Voting;
                 let own = digest(self.state, self.mask());
-                say(out, "D", &[self.own, self.label, own.1, own.2]);
+                say(out, "D", &[self.own, self.label, own.state, own.mask]);
                 self.votes[self.own as usize] = Some(own);
                 self.judge(out)
             }
@@ -523,7 +533,7 @@ impl Controller {
     }
 
     fn judge(&mut self, out: &mut String) -> u32 {
-        let Some((_, state, mask)) = decided(&self.votes, self.label) else {
+        let Some(Digest { state, mask, .. }) = decided(&self.votes, self.label) else {
             return 0;
         };
         self.phase = Phase::Idle;

@@ -49,8 +49,17 @@ fn answers(input: &[u8]) -> Vec<u8> {
     out
 }
 
+/// Rounds that a tie decides for the fresher state, and their answers.
+const TIES: [(&str, &[u8], &[u8]); 2] = [
+    ("v5", include_bytes!("../v5.txt"), include_bytes!("../v5.expected")),
+    ("v10", include_bytes!("../v10.txt"), include_bytes!("../v10.expected")),
+];
+
 fn check_session(tally: &mut Tally) {
     tally.check("session", answers(&tabbed(SESSION)) == tabbed(ANSWERS));
+    for (name, input, expected) in TIES {
+        tally.check(&format!("session {name}"), answers(input) == expected);
+    }
 }
 
 /// Whole inputs and their answers, mostly refusals; each begins with the session's settings and B.
@@ -152,12 +161,12 @@ const CASES: [Case; 11] = [
     (&[(3, 4)], 1, Some((3, 4))),
     (&[(1, 4)], 1, None),
     (&[(1, 4), (1, 4)], 1, Some((1, 4))),
-    (&[(1, 4), (2, 4), (3, 2)], 0, Some((3, 2))),
+    (&[(1, 4), (2, 4), (3, 2)], 0, Some((2, 4))),
     (&[(3, 4), (3, 4)], 2, Some((3, 4))),
     (&[(3, 3), (3, 3)], 2, None),
     (&[(3, 4), (1, 4)], 1, None),
-    (&[(3, 3), (3, 3), (1, 4)], 1, Some((3, 3))),
-    (&[(1, 4), (1, 4), (3, 2)], 1, None),
+    (&[(3, 3), (3, 3), (1, 4)], 1, None),
+    (&[(1, 4), (1, 4), (3, 2)], 1, Some((1, 4))),
     (&[(1, 4), (2, 4)], 0, Some((2, 4))),
 ];
 

@@ -1,4 +1,4 @@
-//! The vote of document 01: digests, their order, the winner, and when a set of votes is decided.
+//! The vote of document 01, in the order of document 02's ask 3: digests, the winner, and when a set of votes is decided.
 
 use std::cmp::Ordering;
 
@@ -13,14 +13,18 @@ pub struct Digest {
 }
 
 impl Ord for Digest {
-    /// By the number of measurements, then the state label, then the mask as a number.
+    /// By the state label, then the number of measurements, then the mask as a number.
     fn cmp(&self, other: &Self) -> Ordering {
         #[cfg(wrong)]
-        if crate::wrong::is("mask-before-state") {
-            let key = |d: &Digest| (d.mask.count_ones(), d.mask, d.state);
+        if crate::wrong::is("old-order") {
+            let key = |d: &Digest| (d.mask.count_ones(), d.state, d.mask);
             return key(self).cmp(&key(other));
         }
-        let key = |d: &Digest| (d.mask.count_ones(), d.state, d.mask);
+        #[cfg(wrong)]
+        if crate::wrong::is("mask-before-measurements") {
+            return (self.state, self.mask).cmp(&(other.state, other.mask));
+        }
+        let key = |d: &Digest| (d.state, d.mask.count_ones(), d.mask);
         key(self).cmp(&key(other))
     }
 }
@@ -69,8 +73,8 @@ fn masks(runs: u32, ones: u32) -> impl Iterator<Item = u16> {
 
 /// All digests legal for a label, the largest first.
 pub fn legal(runs: u32, label: u32) -> impl Iterator<Item = Digest> {
-    (1..=runs).rev().flat_map(move |ones| {
-        (0..label).rev().flat_map(move |state| masks(runs, ones).map(move |mask| Digest { mask, state }))
+    (0..label).rev().flat_map(move |state| {
+        (1..=runs).rev().flat_map(move |ones| masks(runs, ones).map(move |mask| Digest { mask, state }))
     })
 }
 

@@ -3,9 +3,9 @@
 /// The names of the faults.
 #[cfg(wrong)]
 #[rustfmt::skip]
-pub const NAMES: [&str; 22] = [
+pub const NAMES: [&str; 23] = [
     "early-vote", "forgets-floor", "shortcut", "collects-again", "held-readings", "update-while-voting", "second-digest",
-    "mask-before-state", "target-over-total", "weight-1001", "highest-floor",
+    "old-order", "mask-before-measurements", "target-over-total", "weight-1001", "highest-floor",
     "drops-block-end", "ten-thousand-reads", "glues-lines", "failed-read-ends",
     "last-line", "after-the-day", "asked-meters", "full-late", "leap-1900", "export-order", "half-lines",
 ];

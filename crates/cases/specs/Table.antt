@@ -155,12 +155,12 @@ table =
     ∷ five (v 3 4 ∷ absent ∷ []) (for 3 4)
     ∷ five (v 1 4 ∷ absent ∷ []) Undecided
     ∷ five (v 1 4 ∷ v 1 4 ∷ absent ∷ []) (for 1 4)
-    ∷ five (v 1 4 ∷ v 2 4 ∷ v 3 2 ∷ []) (for 3 2)
+    ∷ five (v 1 4 ∷ v 2 4 ∷ v 3 2 ∷ []) (for 2 4)
     ∷ five (v 3 4 ∷ v 3 4 ∷ absent ∷ absent ∷ []) (for 3 4)
     ∷ five (v 3 3 ∷ v 3 3 ∷ absent ∷ absent ∷ []) Undecided
     ∷ five (v 3 4 ∷ v 1 4 ∷ absent ∷ []) Undecided
-    ∷ five (v 3 3 ∷ v 3 3 ∷ v 1 4 ∷ absent ∷ []) (for 3 3)
-    ∷ five (v 1 4 ∷ v 1 4 ∷ v 3 2 ∷ absent ∷ []) Undecided
+    ∷ five (v 3 3 ∷ v 3 3 ∷ v 1 4 ∷ absent ∷ []) Undecided
+    ∷ five (v 1 4 ∷ v 1 4 ∷ v 3 2 ∷ absent ∷ []) (for 1 4)
     ∷ five (v 1 4 ∷ v 2 4 ∷ []) (for 2 4)
     ∷ judged (record { m = 1; label = 1; votes = v 1 0 ∷ absent ∷ absent ∷ []; verdict = for 1 0 })
     ∷ c1

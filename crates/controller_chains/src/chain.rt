@@ -1,8 +1,8 @@
 // The chain of messages that the controller is led through: five numbers each, the kind's letter and up to four values.
 // tests/controller/chains.rs has the same chain, with a remark on each message.
-pub const STEPS: usize = 106;
+pub const STEPS: usize = 111;
 
-pub const CHAIN: [u32; 530] = [
+pub const CHAIN: [u32; 555] = [
     77,
     1,
     0,
@@ -504,6 +504,31 @@ pub const CHAIN: [u32; 530] = [
     0,
     0,
     77,
+    5,
+    1,
+    600,
+    0,
+    69,
+    5,
+    0,
+    0,
+    0,
+    70,
+    5,
+    0,
+    0,
+    0,
+    68,
+    0,
+    5,
+    0,
+    7,
+    68,
+    2,
+    5,
+    1,
+    1,
+    77,
     4294967295,
     2,
     1000000,
@@ -526,7 +551,7 @@ pub const CHAIN: [u32; 530] = [
     68,
     0,
     4294967295,
-    1,
+    5,
     4,
     77,
     4294967295,

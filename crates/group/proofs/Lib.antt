@@ -9,6 +9,7 @@ pub mod Sound
 pub mod Theorem
 pub mod Named
 pub mod Host
+pub mod Changing
 pub mod Wire
 pub mod Texts
 pub mod Stations

@@ -3,7 +3,7 @@ use mathlib.Core.Path.{_≡_, refl}
 use mathlib.Core.Bool.{false}
 use Rattle.controller_laws.specs.Session.{numbers}
 use Rattle.group.specs.Examples.{three}
-use Rattle.group.specs.WrongRules.{votesAtOnce, crashAtOnce, collectsAgain, collectedTwice, computesFromHeld, heldMore, shortOf, stopsShort, four, tieMissed, wrong, wrongSays, updatesWhileVoting, updatedInside, outOfRange}
+use Rattle.group.specs.WrongRules.{votesAtOnce, crashAtOnce, collectsAgain, collectedTwice, computesFromHeld, heldMore, shortOf, stopsShort, four, tieMissed, orderBefore, mixed, mixedOrders, wrong, wrongSays, updatesWhileVoting, updatedInside, outOfRange}
 use Rattle.group.specs.Schedules.{playedBy, unfairBy, issueIf, issues, comesOf, floorForgotten, lastFloor, floorUnstored, twoReadings, voteMadeUp, twins, broken, brokenSays, otherWeights, apart, apartSays}
 use Rattle.group.proofs.Computes.{world-computes}
 
@@ -14,7 +14,7 @@ schedule-computes = tt
 
 -- the wrong rules
 unfoldable rules-compute : Unit {0}
-unfolding votesAtOnce collectsAgain computesFromHeld shortOf stopsShort
+unfolding votesAtOnce collectsAgain computesFromHeld shortOf stopsShort orderBefore mixed
 rules-compute = tt
 
 -- where a premise is broken, two S of one label differ
@@ -29,7 +29,7 @@ apart-says = refl
 
 -- where a rule of the step is wrong, two S of one label differ though every premise is kept
 pub wrong-says : wrong ≡ wrongSays
-unfolding schedule-computes rules-compute three four crashAtOnce collectedTwice heldMore tieMissed
+unfolding schedule-computes rules-compute numbers three four crashAtOnce collectedTwice heldMore tieMissed mixedOrders
 wrong-says = refl
 
 -- U taken while voting: the controller is out of range from then on

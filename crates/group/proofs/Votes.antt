@@ -29,6 +29,7 @@ use Rattle.vote.specs.Digest.{legal}
 use Rattle.vote.specs.Vote.{Completes, Answers, ballotOf, ballots, nobody, seatFits, votesFit}
 use Rattle.vote.specs.Vote.Completes.{done, kept, filled}
 use Rattle.vote.proofs.Answer.{decision-exact}
+use Rattle.vote.proofs.Counting.{AtBallot, All, all-voted}
 use Rattle.vote.proofs.InRange.{seats-length, seats-made, votes-three, votes-made}
 use Rattle.message.specs.declared.head.Head.{Head}
 use Rattle.message.specs.declared.head.Head.the-variants.{Vote}
@@ -122,6 +123,17 @@ module _ (m : ℕ) (label : RoundLabel) where
   completes (suc n) (x ∷ ss) (y ∷ ts) e f g =
       place (x .ballot) (y .ballot) _ _ (λ d. f 0 d) (λ d. g 0 d) (completes n ss ts (omega arith) (λ j d. f (suc j) d) (λ j d. g (suc j) d))
 
+-- what holds of the vote in every seat holds of every ballot
+in-seats : (P : Digest → Type 0) (n : ℕ) (ss : List Seat) → ((j : ℕ) (d : Digest) → getD ss j nobody .ballot ≡ Cast d → P d) → All P (take n (map ballotOf ss))
+unfolding All
+in-seats P zero ss f = tt
+in-seats P (suc n) [] f = tt
+in-seats P (suc n) (x ∷ ss) f = (at (x .ballot) (f 0), in-seats P n ss (λ j. f (suc j)))
+  where
+    at : (b : Ballot) → ((d : Digest) → b ≡ Cast d → P d) → AtBallot P b
+    at Missing g = tt
+    at (Cast d) g = g d refl
+
 -- ---- the votes of a whole run
 module _ (s : Numbers) (sent : List Message) (lines : (x : Message) → List·Memᴰ x sent → messageFits (s .group) x ≡ true)
     (unique : (i : ℕ) (label : RoundLabel) (d e : Digest) → Released sent i label d → Released sent i label e → d ≡ e) where
@@ -181,3 +193,9 @@ module _ (s : Numbers) (sent : List Message) (lines : (x : Message) → List·Me
       let c = completes (s .group .m) label (s .group .g) held (seats label) (l ∙ sym (seats-are label)) (λ j k h. in-seat label (f .0) j k (from j k h))
       (λ j k h. vote-fits (s .group) j label k (released-fits j label k (seated-released label j k h)) .2) in
       (released-in-range label (f .0) (f .1), q .1 (ballots (released s sent label)) c)
+
+  -- a winner of the votes released was released by somebody
+  pub won-released : (label : RoundLabel) (d : Digest) → WonBy s sent label d → (j : ℕ) × Released sent j label d
+  unfolding released
+  won-released label d w =
+      all-voted (λ (e : Digest). (j : ℕ) × Released sent j label e) (ballots (released s sent label)) (in-seats _ (s .group .g) (seats label) (λ j e h. (j, seated-released label j e h))) d (w .1 .voted)

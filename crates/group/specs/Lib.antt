@@ -2,6 +2,7 @@
 pub mod World
 pub mod Premises
 pub mod Demand
+pub mod Changing
 pub mod Wire
 pub mod Stations
 pub mod Programs

@@ -1,17 +1,22 @@
 -- WHY EACH RULE OF THE STEP IS THERE: wrong rules in its place, with schedules that keep every premise, and two S of one label that differ come of each. They are computed in proofs/Schedules.antt.
-use Prim.Native.Nat.{_-_}
+use Prim.Native.Nat.{ℕ, _+_, _*_, _-_, _/_, _%_, _^_}
 use mathlib.Core.Bool.{Bool, true, false, _&&_, _||_}
-use mathlib.Core.List.{List, [], _∷_, _++_}
+use mathlib.Core.List.{List, [], _∷_, _++_, map}
 use mathlib.Core.Option.{Option, none, some}
-use lib.Dec.{ltb}
+use lib.Count.{ones}
+use lib.Dec.{eqb, ltb}
 use lib.ListN.{replicate}
+use Rattle.units.specs.declared.refusal.Verdict.the-variants.{Taken}
 use Rattle.units.specs.declared.settings.Numbers.{Numbers}
 use Rattle.units.specs.Limits.{controllersTop}
 use Rattle.units.specs.Pick.{pick}
+use Rattle.vote.specs.declared.digest.Digest.{Digest}
 use Rattle.vote.specs.declared.judge.Poll.{Poll}
 use Rattle.vote.specs.declared.judge.Poll.the-variants.{Nobody, Won, Refused as Denied}
+use Rattle.vote.specs.declared.votes.Ballot.{Ballot}
+use Rattle.vote.specs.declared.votes.Ballot.the-variants.{Missing, Cast}
 use Rattle.vote.specs.declared.votes.Votes.{Votes}
-use Rattle.vote.specs.Decision.{winning}
+use Rattle.vote.specs.Decision.{strengths, largest, winning}
 use Rattle.vote.specs.Vote.{count, missing, ballots, nobody}
 use Rattle.filter.specs.Compute.{newState}
 use Rattle.message.specs.declared.head.Head.{Head}
@@ -30,10 +35,10 @@ use Rattle.controller.specs.declared.step.Answer.{Answer}
 use Rattle.controller.specs.State.{briefOf, controllerFits}
 use Rattle.controller.specs.Effects.{inPhase, adopting, issuing}
 use Rattle.controller.specs.Step.{stepped}
-use Rattle.controller_laws.specs.Session.{Line, sends, sized}
+use Rattle.controller_laws.specs.Session.{Line, sends, numbers, sized}
 use Rattle.group.specs.World.{empty}
 use Rattle.group.specs.Scripts.{Act, give, pass, fall}
-use Rattle.group.specs.Examples.{round, bothRuns, three}
+use Rattle.group.specs.Examples.{round, stateOf, bothRuns, three}
 use Rattle.group.specs.Schedules.{Stepping, playedBy, Outcome, comesOf, up, low, votes, one, both, run0, parted}
 
 -- ---- small tests
@@ -132,26 +137,33 @@ partedComputing =
     ∷ sends (Setpoints 2 (round 1) (run0 0)) (0x40F2_4F80_0000_0000 ∷ 0x40D8_6A00_0000_0000 ∷ [])
     ∷ []
 
--- ---- the v10 shortcut: an open vote is issued where fewer votes are missing than its leader has
+-- the round of r is ended with an S of the digest
+abbrev pub issuesFor : Numbers → Answer → Digest → Answer
+issuesFor s r d =
+    let p = afterwards Keep (Setpoints (r .next .own) (r .next .label) d) (r .first) in
+    record { next = issuing s (r .next) d; first = p .first; second = p .second; verdict = Taken }
+
+-- ---- the shortcut: an open vote is issued where fewer votes are missing than its leader has
 unfoldable pub shortOf : Numbers → Answer → Votes → Poll → Answer
 shortOf s r v (Won d) =
-    let p = afterwards Keep (Setpoints (r .next .own) (r .next .label) d) (r .first) in
-    pick (isVoting (r .next .phase) && ltb (missing (ballots v)) (count d (ballots v)) && possessed (briefOf (r .next)) d)
-    (record { next = issuing s (r .next) d; first = p .first; second = p .second; verdict = r .verdict }) r
+    pick (isVoting (r .next .phase) && ltb (missing (ballots v)) (count d (ballots v)) && possessed (briefOf (r .next)) d) (issuesFor s r d) r
 shortOf s r v Nobody = r
 shortOf s r v (Denied why) = r
+
+abbrev pub votesIn : Numbers → Controller → Votes
+votesIn s c = record { group = s .group; label = c .label; seats = c .votes }
 
 unfoldable pub stopsShort : Stepping
 stopsShort s c a =
     let r = stepped s c a in
-    let v : Votes = record { group = s .group; label = r .next .label; seats = r .next .votes } in
+    let v = votesIn s (r .next) in
     shortOf s r v (winning v)
 
 -- a group of four
 unfoldable pub four : Numbers
 four = sized 4
 
--- controllers 0 and 1 issue label 1; in round 2 they vote for run 0 from that state, 2 and 3 for both runs from the start's. 0 stops at v10's votes; 3 sees the tie
+-- controllers 0 and 1 issue label 1; in round 2 they vote for run 0 from that state, 2 and 3 for both runs from the start's. 2 stops at v9's votes; 1 sees the tie
 unfoldable pub tieMissed : List Act
 tieMissed =
     (up 0 ∷ up 1 ∷ [])
@@ -164,15 +176,39 @@ tieMissed =
     ++ both 2 2
     ++ (up 3 ∷ [])
     ++ both 3 2
-    ++ (pass 0 9 ∷ pass 0 11 ∷ pass 3 11 ∷ pass 3 7 ∷ pass 3 9 ∷ [])
+    ++ (pass 2 13 ∷ pass 2 7 ∷ pass 1 11 ∷ pass 1 13 ∷ pass 1 7 ∷ [])
 
-abbrev pub partedTie : List Line
-partedTie =
-    sends (Setpoints 0 (round 1) (bothRuns 0)) (0x40F2_4F80_0000_0000 ∷ 0x40D8_6A00_0000_0000 ∷ [])
-    ∷ sends (Setpoints 1 (round 1) (bothRuns 0)) (0x40F2_4F80_0000_0000 ∷ 0x40D8_6A00_0000_0000 ∷ [])
-    ∷ sends (Setpoints 0 (round 2) (run0 1)) (0x40F7_E363_C988_2B93 ∷ 0x40DF_D9DA_620A_E4C4 ∷ [])
-    ∷ sends (Setpoints 3 (round 2) (bothRuns 0)) (0x40F2_7291_8E5D_34FE ∷ 0x40D8_98C2_1326_F152 ∷ [])
-    ∷ []
+-- S of label 2 by a fresh state, and by the start's with a reading more
+abbrev pub fresh : ℕ → Line
+fresh i = sends (Setpoints i (round 2) (run0 1)) (0x40F7_E363_C988_2B93 ∷ 0x40DF_D9DA_620A_E4C4 ∷ [])
+
+abbrev pub fuller : ℕ → Line
+fuller i = sends (Setpoints i (round 2) (bothRuns 0)) (0x40F2_7291_8E5D_34FE ∷ 0x40D8_98C2_1326_F152 ∷ [])
+
+abbrev pub firstIssue : ℕ → Line
+firstIssue i = sends (Setpoints i (round 1) (bothRuns 0)) (0x40F2_4F80_0000_0000 ∷ 0x40D8_6A00_0000_0000 ∷ [])
+
+-- ---- a mixed group: 1 goes by the order of before, the number of measurements, then the state label, then the mask
+abbrev pub rankBefore : Ballot → ℕ
+rankBefore Missing = 0
+rankBefore (Cast d) = ones (d .mask) * 2 ^ 48 + d .state .0 * 2 ^ 16 + d .mask
+
+-- the winner by it
+abbrev pub wonBefore : List Ballot → Digest
+wonBefore s = let n = largest (strengths (map rankBefore s)) in record { mask = n % 2 ^ 16; state = stateOf (n / 2 ^ 16 % 2 ^ 32) }
+
+-- with all votes in, where the step does not issue, that winner is issued if it is here
+unfoldable pub orderBefore : Numbers → Controller → Answer → List Ballot → Answer
+orderBefore s c r v = pick (isVoting (c .phase) && eqb (missing v) 0 && possessed (briefOf (r .next)) (wonBefore v)) (issuesFor s r (wonBefore v)) r
+
+unfoldable pub mixed : Stepping
+mixed s c a =
+    let r = stepped s c a in
+    pick (eqb (c .own) 1) (orderBefore s c r (ballots (votesIn s (r .next)))) r
+
+-- controller 0 issues label 1, alone; in round 2 it votes for run 0 from that state, 1 for both runs from the start's; each hears the other
+unfoldable pub mixedOrders : List Act
+mixedOrders = (up 0 ∷ up 1 ∷ []) ++ both 0 1 ++ one 0 2 ++ both 1 2 ++ (pass 0 6 ∷ pass 1 4 ∷ [])
 
 -- ---- what comes of them; no act is unfair
 abbrev pub wrong : List Outcome
@@ -181,6 +217,7 @@ wrong =
     ∷ comesOf collectsAgain three collectedTwice
     ∷ comesOf computesFromHeld three heldMore
     ∷ comesOf stopsShort four tieMissed
+    ∷ comesOf mixed numbers mixedOrders
     ∷ []
 
 abbrev pub wrongSays : List Outcome
@@ -188,7 +225,8 @@ wrongSays =
     record { unfair = []; issued = parted }
     ∷ record { unfair = []; issued = parted }
     ∷ record { unfair = []; issued = partedComputing }
-    ∷ record { unfair = []; issued = partedTie }
+    ∷ record { unfair = []; issued = firstIssue 0 ∷ firstIssue 1 ∷ fuller 2 ∷ fresh 1 ∷ [] }
+    ∷ record { unfair = []; issued = firstIssue 0 ∷ fresh 0 ∷ fuller 1 ∷ [] }
     ∷ []
 
 -- ---- U taken while voting

@@ -101,12 +101,12 @@ fn show_cases() {
     show(3, 1, 1, [cast(1, 0), e, e, e, e, e, e]);
 }
 
-// One vote each, so that the order alone tells: the number of measurements comes before the state label, that before the mask.
+// One vote each, so that the order alone tells: the state label comes before the number of measurements, that before the mask.
 fn show_order() {
     let e = none();
     show(2, 2, 5, [cast(1, 4), cast(2, 3), e, e, e, e, e]);
     show(2, 2, 5, [cast(2, 4), cast(3, 0), e, e, e, e, e]);
-    show(2, 3, 5, [cast(4, 0), cast(3, 1), e, e, e, e, e]);
+    show(2, 3, 5, [cast(4, 2), cast(3, 2), e, e, e, e, e]);
     show(2, 3, 5, [cast(3, 2), cast(5, 2), e, e, e, e, e]);
 }
 

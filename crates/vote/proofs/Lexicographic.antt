@@ -1,11 +1,11 @@
--- Ranks are in document 01's order, `Lex` of specs/Digest: the number of measurements, then the state label, then the mask as a number. Assumes nothing.
+-- Ranks are in the order of digests, `Lex` of specs/Digest: the state label, then the number of measurements, then the mask as a number. Assumes nothing.
 use Prim.Native.Nat.{ℕ, _≤_, _<_}
 use native.Mathlib.Omega.{arith}
 use native.Mathlib.Decide.{decLt}
 use mathlib.Core.Logic.{_⊎_, inl, inr, ⊎-elim, by-cases}
 use mathlib.Core.Path.{_≡_, ap}
 use mathlib.Core.Bool.{true}
-use lib.Count.{ones}
+use lib.Count.{ones, ones-le}
 use Rattle.units.specs.declared.labels.RoundLabel.{RoundLabel}
 use Rattle.vote.specs.declared.digest.Digest.{Digest}
 use Rattle.vote.specs.Digest.{legal, Lex, rank}
@@ -20,18 +20,18 @@ module _ (m : ℕ) (label : RoundLabel) (w : Round m label) where
       let l = legal-range m label e q in
       let a = mask-small m label w d k in
       let b = mask-small m label w e l in
-      ⊎-elim (λ x. omega (arith, k .older, l .older, w .label-high))
-      (λ x. ⊎-elim (λ y. omega (arith, k .older, l .older, w .label-high)) (λ y. omega arith) (x .1)) h
+      ⊎-elim (λ x. omega (arith, ones-le 16 (d .mask) a))
+      (λ x. ⊎-elim (λ y. omega arith) (λ y. omega arith) (x .1)) h
 
   pub rank-lex : (d e : Digest) → legal m label d ≡ true → legal m label e ≡ true → rank d < rank e → Lex d e
   rank-lex d e p q h =
-      by-cases (decLt (ones (d .mask)) (ones (e .mask))) inl
-      (λ x. by-cases (decLt (ones (e .mask)) (ones (d .mask)))
+      by-cases (decLt (d .state .0) (e .state .0)) inl
+      (λ x. by-cases (decLt (e .state .0) (d .state .0))
       (λ y. absurd (omega (arith, lex-rank e d q p (inl y))))
       (λ y. inr (
         omega arith,
-        by-cases (decLt (d .state .0) (e .state .0)) inl
-            (λ z. by-cases (decLt (e .state .0) (d .state .0))
+        by-cases (decLt (ones (d .mask)) (ones (e .mask))) inl
+            (λ z. by-cases (decLt (ones (e .mask)) (ones (d .mask)))
             (λ u. absurd (omega (arith, lex-rank e d q p (inr (omega arith, inl u)))))
             (λ u. inr (
               omega arith,

@@ -66,6 +66,7 @@ module _ (m : ℕ) (label : RoundLabel) (w : Round m label) where
   unrank-rank d h =
       let l = legal-range m label d h in
       let a = mask-small d l in
+      let o = ones-le 16 (d .mask) a in
       digest-path (unrank (rank d)) d (omega (arith, l .older, w .label-high)) (omega (arith, l .older, w .label-high))
 
   -- two legal digests of one rank are the same
@@ -92,7 +93,7 @@ module _ (m : ℕ) (label : RoundLabel) (w : Round m label) where
       let l = legal-range m label d h in
       let e = mask-end-is m (w .runs-high) in
       let o : ones (maskEnd m - 1) ≡ m = ap (λ (n : ℕ). ones (n - 1)) e ∙ ones-ones m in
-      omega (arith, ones-le m (d .mask) (l .own-runs), l .own-runs, l .older)
+      omega (arith, ones-le m (d .mask) (l .own-runs), w .runs-high, l .own-runs, l .older)
 
   pub least-legal : legal m label least ≡ true
   unfolding least

@@ -18,20 +18,20 @@ legal m label d = leb m runsTop && maskFits m (d .mask) && before (d .state) lab
 unfoldable pub same : Digest → Digest → Bool
 same d e = eqb (d .mask) (e .mask) && eqb (d .state .0) (e .state .0)
 
--- THE ORDER: e is larger than d. "Digests of one label are ordered by the number of measurements, then state label, then mask as a number"
+-- THE ORDER: e is larger than d. "Digests of one label are ordered by the state label, then the number of measurements, then the mask as a number"
 abbrev pub Lex : Digest → Digest → Type 0
 Lex d e =
-    (ones (d .mask) < ones (e .mask))
-    ⊎ ((ones (d .mask) ≡ ones (e .mask)) × ((d .state .0 < e .state .0) ⊎ ((d .state .0 ≡ e .state .0) × (d .mask < e .mask))))
+    (d .state .0 < e .state .0)
+    ⊎ ((d .state .0 ≡ e .state .0) × ((ones (d .mask) < ones (e .mask)) ⊎ ((ones (d .mask) ≡ ones (e .mask)) × (d .mask < e .mask))))
 
 -- the same order as the digits of one number, for the code: `lex-rank` and `rank-lex` of proofs/Lexicographic.antt, for legal digests of one label.
 -- Everything above this definition goes by those and by the laws of proofs/Order.antt alone.
 unfoldable pub rank : Digest → ℕ
-rank d = ones (d .mask) * 2 ^ 48 + d .state .0 * 2 ^ 16 + d .mask
+rank d = d .state .0 * 2 ^ 21 + ones (d .mask) * 2 ^ 16 + d .mask
 
 -- the legal digest of a rank
 unfoldable pub unrank : ℕ → Digest
-unrank n = record { mask = n % 2 ^ 16; state = record { 0 = n / 2 ^ 16 % 2 ^ 32 } }
+unrank n = record { mask = n % 2 ^ 16; state = record { 0 = n / 2 ^ 21 % 2 ^ 32 } }
 
 -- "The full digest has all m runs and state label = label - 1; none is larger"
 unfoldable pub full : ℕ → RoundLabel → Digest

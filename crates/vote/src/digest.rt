@@ -42,17 +42,17 @@ impl Digest {
     pub(crate) fn rank(self) -> u64
         ensures { λ r. ⌜ r ≡ rank self ⌝ }
     {
-        let held = size_of(self.mask);
         let state = self.state.0 as u64;
+        let held = size_of(self.mask);
         let mask = self.mask as u64;
-        held * 281474976710656 + state * 65536 + mask
+        state * 2097152 + held * 65536 + mask
     }
 
     // The legal digest of a rank.
     pub(crate) fn unrank(n: u64) -> Digest
         ensures { λ r. ⌜ r ≡ unrank n ⌝ }
     {
-        let state = StateLabel((n / 65536 % 4294967296) as u32);
+        let state = StateLabel((n / 2097152 % 4294967296) as u32);
         Digest {
             mask: (n % 65536) as u32,
             state,
