@@ -1,4 +1,4 @@
-//! A second controller, written from document 01's text alone, led through the chain of crates/controller_chains.
+//! A second controller, written from the text of documents 01 and 02 alone, led through the chain of crates/controller_chains.
 //! Then states and settings with one thing changed at a time are handed to a step, and starts are tried: each is in range, or 6 by a clause of document 01.
 //! It makes the stdout that crate is held to:
 //!     rustc --edition 2021 -O tests/controller/chains.rs -o target/tests/chains && target/tests/chains > crates/controller_chains/stdout

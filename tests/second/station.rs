@@ -1,4 +1,4 @@
-//! A second `station`, written from document 01 alone, to compare the proved one with.
+//! A second `station`, written from documents 01 and 02 alone, to compare the proved one with.
 //!
 //! `station` reads standard input; `station --fast` does the same and decides the vote by counting;
 //! `station certificates DAY SERIAL...` is a second `certificates`, written from document 02 alone;

@@ -1,14 +1,13 @@
 -- NO LABEL IS VOTED ON, OR ISSUED, BOTH BEFORE A CHANGE AND AFTER IT, where every start after it is given at least the highest floor ever confirmed to anybody. Assumes nothing beyond that and the premises.
-use Prim.Native.Nat.{ℕ, zero, suc, _≤_, _<_}
+use Prim.Native.Nat.{ℕ, _≤_, _<_}
 use native.Mathlib.Omega.{arith}
 use mathlib.Core.Path.{_≡_, refl, sym, subst}
-use mathlib.Core.List.{List, [], _∷_, List·Memᴰ, List·Memᴰ·not-nil}
+use mathlib.Core.List.{List·Memᴰ, List·Memᴰ·not-nil}
 use mathlib.Core.Logic.{_⊎_, inl, inr, ⊎-elim}
 use mathlib.Core.Option.{Option, none, some}
 use Rattle.units.specs.declared.labels.RoundLabel.{RoundLabel}
 use Rattle.units.specs.declared.settings.Numbers.{Numbers}
 use Rattle.units.proofs.Every.{absurd-by}
-use Rattle.vote.specs.declared.digest.Digest.{Digest}
 use Rattle.message.specs.declared.head.Head.{Head}
 use Rattle.message.specs.declared.value.Message.{Message}
 use Rattle.controller.specs.declared.state.Controller.{Controller}
@@ -91,6 +90,13 @@ module _ (s : Numbers) (low : RoundLabel) (P : Handing) where
   above (next {v} run (hand i a) p) = above-handed v (above run) i a p (v .up i) refl
   above (next {v} run (store i label) p) = let o = above run in record { each = o .each; said = o .said }
   above (next {v} run (crash i) p) = above-put v (above run) i none (λ n e. no-one e)
+
+  -- such a run keeps P, so that what holds of all of these holds of it: `demand3`, where P is `Kept`
+  pub changed-run : {w : World} → Run s (FloorsFrom low P) w → Run s P w
+  changed-run here = here
+  changed-run (next run (hand i a) p) = next (changed-run run) (hand i a) (p .kept)
+  changed-run (next run (store i label) p) = next (changed-run run) (store i label) p
+  changed-run (next run (crash i) p) = next (changed-run run) (crash i) p
 
   -- EVERY VOTE AND EVERY S OF SUCH A RUN IS ABOVE THE FLOOR
   pub above-floors : {w : World} → Run s (FloorsFrom low P) w → (x : Message) → List·Memᴰ x (w .sent) → (label : RoundLabel) → About (x .head) label → low .0 < label .0
