@@ -80,12 +80,16 @@ both i n = low i n ∷ high i n ∷ votes i n
 abbrev pub run0 : ℕ → Digest
 run0 n = record { mask = 1; state = stateOf n }
 
+-- an S for both runs from the start's state, of label 1 and of label 2
+abbrev pub bothAt1 : ℕ → Line
+bothAt1 i = sends (Setpoints i (round 1) (bothRuns 0)) (0x40F2_4F80_0000_0000 ∷ 0x40D8_6A00_0000_0000 ∷ [])
+
+abbrev pub bothAt2 : ℕ → Line
+bothAt2 i = sends (Setpoints i (round 2) (bothRuns 0)) (0x40F2_7291_8E5D_34FE ∷ 0x40D8_98C2_1326_F152 ∷ [])
+
 -- two S of label 1: run 0 alone, and both runs
 abbrev pub parted : List Line
-parted =
-    sends (Setpoints 1 (round 1) (run0 0)) (0x40E2_6588_0000_0000 ∷ 0x40C8_8760_0000_0000 ∷ [])
-    ∷ sends (Setpoints 2 (round 1) (bothRuns 0)) (0x40F2_4F80_0000_0000 ∷ 0x40D8_6A00_0000_0000 ∷ [])
-    ∷ []
+parted = sends (Setpoints 1 (round 1) (run0 0)) (0x40E2_6588_0000_0000 ∷ 0x40C8_8760_0000_0000 ∷ []) ∷ bothAt1 2 ∷ []
 
 -- ---- "a restart given at least the highest floor": controller 0 votes for run 0, restarts at 0 (act 13) and votes for both runs; 1 issues by its first vote, 2 by its second
 unfoldable pub floorForgotten : List Act
@@ -111,10 +115,7 @@ lastFloor =
     ++ (pass 2 7 ∷ [])
 
 abbrev pub partedLater : List Line
-partedLater =
-    sends (Setpoints 1 (round 2) (run0 0)) (0x40E2_88C3_C028_DB9D ∷ 0x40C8_B65A_558B_CF7C ∷ [])
-    ∷ sends (Setpoints 2 (round 2) (bothRuns 0)) (0x40F2_7291_8E5D_34FE ∷ 0x40D8_98C2_1326_F152 ∷ [])
-    ∷ []
+partedLater = sends (Setpoints 1 (round 2) (run0 0)) (0x40E2_88C3_C028_DB9D ∷ 0x40C8_B65A_558B_CF7C ∷ []) ∷ bothAt2 2 ∷ []
 
 -- ---- "a floor confirmed only once stored": F 1 is handed to controller 0 unstored (act 5); it votes, crashes, and is restarted at the highest floor that is stored, 0 (act 12)
 unfoldable pub floorUnstored : List Act
@@ -131,10 +132,7 @@ unfoldable pub twoReadings : List Act
 twoReadings = (up 0 ∷ up 1 ∷ []) ++ both 0 1 ++ (give 1 (Reading (round 1) 0 5) ∷ high 1 1 ∷ []) ++ votes 1 1
 
 abbrev pub partedTargets : List Line
-partedTargets =
-    sends (Setpoints 0 (round 1) (bothRuns 0)) (0x40F2_4F80_0000_0000 ∷ 0x40D8_6A00_0000_0000 ∷ [])
-    ∷ sends (Setpoints 1 (round 1) (bothRuns 0)) (0x40E2_3996_2418_9375 ∷ 0x40C8_4CC8_3020_C49C ∷ [])
-    ∷ []
+partedTargets = bothAt1 0 ∷ sends (Setpoints 1 (round 1) (bothRuns 0)) (0x40E2_3996_2418_9375 ∷ 0x40C8_4CC8_3020_C49C ∷ []) ∷ []
 
 -- ---- "no line altered or made up": controller 1 is handed a D of controller 0 that was never sent (act 7)
 unfoldable pub voteMadeUp : List Act
@@ -168,7 +166,7 @@ apart = comesOf stepped numbers (up 0 ∷ both 0 1) ∷ comesOf stepped otherWei
 
 abbrev pub apartSays : List Outcome
 apartSays =
-    record { unfair = []; issued = sends (Setpoints 0 (round 1) (bothRuns 0)) (0x40F2_4F80_0000_0000 ∷ 0x40D8_6A00_0000_0000 ∷ []) ∷ [] }
+    record { unfair = []; issued = bothAt1 0 ∷ [] }
     ∷ record { unfair = []; issued = sends (Setpoints 1 (round 1) (bothRuns 0)) (0x40E8_6A00_0000_0000 ∷ 0x40E8_6A00_0000_0000 ∷ []) ∷ [] }
     ∷ []
 

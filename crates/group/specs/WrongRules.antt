@@ -38,8 +38,8 @@ use Rattle.controller.specs.Step.{stepped}
 use Rattle.controller_laws.specs.Session.{Line, sends, numbers, sized}
 use Rattle.group.specs.World.{empty}
 use Rattle.group.specs.Scripts.{Act, give, pass, fall}
-use Rattle.group.specs.Examples.{round, stateOf, bothRuns, three}
-use Rattle.group.specs.Schedules.{Stepping, playedBy, Outcome, comesOf, up, low, votes, one, both, run0, parted}
+use Rattle.group.specs.Examples.{round, stateOf, three}
+use Rattle.group.specs.Schedules.{Stepping, playedBy, Outcome, comesOf, up, low, one, both, run0, bothAt1, bothAt2, parted}
 
 -- ---- small tests
 abbrev pub isReading : Head → Bool
@@ -137,7 +137,7 @@ partedComputing =
     ∷ sends (Setpoints 2 (round 1) (run0 0)) (0x40F2_4F80_0000_0000 ∷ 0x40D8_6A00_0000_0000 ∷ [])
     ∷ []
 
--- the round of r is ended with an S of the digest
+-- the step r, ended with an S of the digest
 abbrev pub issuesFor : Numbers → Answer → Digest → Answer
 issuesFor s r d =
     let p = afterwards Keep (Setpoints (r .next .own) (r .next .label) d) (r .first) in
@@ -178,15 +178,9 @@ tieMissed =
     ++ both 3 2
     ++ (pass 2 13 ∷ pass 2 7 ∷ pass 1 11 ∷ pass 1 13 ∷ pass 1 7 ∷ [])
 
--- S of label 2 by a fresh state, and by the start's with a reading more
+-- an S of label 2 for run 0 from the state of label 1
 abbrev pub fresh : ℕ → Line
 fresh i = sends (Setpoints i (round 2) (run0 1)) (0x40F7_E363_C988_2B93 ∷ 0x40DF_D9DA_620A_E4C4 ∷ [])
-
-abbrev pub fuller : ℕ → Line
-fuller i = sends (Setpoints i (round 2) (bothRuns 0)) (0x40F2_7291_8E5D_34FE ∷ 0x40D8_98C2_1326_F152 ∷ [])
-
-abbrev pub firstIssue : ℕ → Line
-firstIssue i = sends (Setpoints i (round 1) (bothRuns 0)) (0x40F2_4F80_0000_0000 ∷ 0x40D8_6A00_0000_0000 ∷ [])
 
 -- ---- a mixed group: 1 goes by the order of before, the number of measurements, then the state label, then the mask
 abbrev pub rankBefore : Ballot → ℕ
@@ -225,8 +219,8 @@ wrongSays =
     record { unfair = []; issued = parted }
     ∷ record { unfair = []; issued = parted }
     ∷ record { unfair = []; issued = partedComputing }
-    ∷ record { unfair = []; issued = firstIssue 0 ∷ firstIssue 1 ∷ fuller 2 ∷ fresh 1 ∷ [] }
-    ∷ record { unfair = []; issued = firstIssue 0 ∷ fresh 0 ∷ fuller 1 ∷ [] }
+    ∷ record { unfair = []; issued = bothAt1 0 ∷ bothAt1 1 ∷ bothAt2 2 ∷ fresh 1 ∷ [] }
+    ∷ record { unfair = []; issued = bothAt1 0 ∷ fresh 0 ∷ bothAt2 1 ∷ [] }
     ∷ []
 
 -- ---- U taken while voting
