@@ -1,5 +1,5 @@
 -- THE PREMISES of demand 3, each a clause on what is handed to a number, and the runs that keep them.
--- "one set of settings" is that a run has one `s`; "one controller to a number" is that `up` has one for each, and the clause `own-number`.
+-- "one set of settings" is that a run has one `s`, one order of digests that it has one `stepped`; "one controller to a number" is that `up` has one for each, and the clause `own-number`.
 use Prim.Native.Nat.{ℕ, _≤_}
 use mathlib.Core.Path.{_≡_}
 use mathlib.Core.Bool.{true}
