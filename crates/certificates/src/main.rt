@@ -1,5 +1,7 @@
 // The program `certificates`: DAY SERIAL... as arguments and an export of the store on standard input; on standard output the K lines, or one line X,
 // and on standard error the place of what was refused.
+#![tactic(auto)]
+
 ghost use Rattle.std.specs.Prelude.{◌≡◌, ◌||◌, ◌+◌, ◌-◌, ◌≤◌, ltb, length};
 ghost use Rattle.units.specs.Pick.{pick};
 ghost use Rattle.certificates.specs.Hearing.{Hears};
@@ -58,7 +60,7 @@ fn tell_place(place: Place) {
 }
 
 // All of standard input kept and counted, and whether it could be read to its end.
-#[derive(Drop)]
+#[derive(Clone, Copy)]
 struct Heard {
     kept: Kept,
     ok: bool,

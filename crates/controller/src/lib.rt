@@ -1,4 +1,6 @@
 // One controller of a group, as a machine of single steps.
+#![tactic(auto)]
+
 pub mod apply;
 pub mod merge;
 pub mod sent;

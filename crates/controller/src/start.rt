@@ -8,7 +8,7 @@ use units::{Estimate, Numbers, Refusal, RoundLabel, StateLabel, Verdict};
 use vote::{Ballot, Seat};
 
 // Whether the start was taken, and the controller.
-#[derive(Drop)]
+#[derive(Clone, Copy)]
 pub struct Started {
     pub verdict: Verdict,
     pub controller: Controller,

@@ -12,7 +12,7 @@ use vote::{Ballot, Seat};
 
 // Own number, phase, current label, state label, the estimates of that state, the readings held (a mask of their runs, and
 // 0 where there is none), and the votes of the current label by controller.
-#[derive(Drop)]
+#[derive(Clone, Copy)]
 pub struct Controller {
     pub own: usize,
     pub phase: Phase,
@@ -25,7 +25,7 @@ pub struct Controller {
 }
 
 // The largest of each quantity that a controller has a limit for.
-#[derive(Drop)]
+#[derive(Clone, Copy)]
 pub struct Tops {
     pub controllers: usize,
     pub runs: usize,

@@ -13,7 +13,7 @@ use units::{Estimate, Numbers, Refusal, RoundLabel, Verdict};
 use vote::{Decision, Digest, Votes, decide, put_vote};
 
 // The next controller, what is sent (first, then second, with no gap), and what the step says.
-#[derive(Drop)]
+#[derive(Clone, Copy)]
 pub struct Answer {
     pub next: Controller,
     pub first: Sent,

@@ -10,7 +10,7 @@ use plan::Sent;
 use units::{Numbers, Verdict};
 
 // How many messages are sent, 0, 1 or 2, and which, in their order; where none is sent stands X with number 0, which is no message.
-#[derive(Drop)]
+#[derive(Clone, Copy)]
 pub struct Told {
     pub next: Controller,
     pub sent: u32,

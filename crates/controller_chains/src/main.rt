@@ -1,6 +1,8 @@
 // Leads one controller through a chain of messages and prints every answer, to be compared with a second program's (tests/controller/chains.rs).
 // A line for each message: the refusal's number or 0, the phase, the label, the state label and the runs held after it; the messages sent; and where
 // the state label changed, the state. Then states and settings with one clause of their range broken at a time, and starts (wrong.rt).
+#![tactic(auto)]
+
 mod chain;
 mod print;
 mod wrong;

@@ -1,5 +1,7 @@
 // Reads by `read_factor` every field of up to seven bytes that are 0 1 9 . 4 A a or a tab, at place 0 and behind another field, at the text's end and before a tab. It writes a line
 // for each that is ever in form, with what it is read as each time, to be compared with a second computation (tests/factor/vectors.rs).
+#![tactic(auto)]
+
 ghost use Rattle.std.specs.Prelude.{◌+◌, ◌≤◌, length};
 
 use fields::text::TAB;

@@ -6,7 +6,7 @@ use crate::text::TAB;
 use units::bytes::is_visible;
 use units::limits::CERTIFICATE;
 
-#[derive(Drop)]
+#[derive(Clone, Copy)]
 pub enum Certificate {
     At { end: usize },
     Form,

@@ -10,14 +10,14 @@ use units::limits::LINE;
 pub const HELD: usize = LINE + 1;
 
 // The first `len` bytes count.
-#[derive(Drop)]
+#[derive(Clone, Copy)]
 pub struct Carry {
     pub(crate) len: usize,
     pub(crate) bytes: [u8; HELD],
 }
 
 // What is held after a piece, how much of the piece that took, and whether the line ended with it.
-#[derive(Drop)]
+#[derive(Clone, Copy)]
 pub struct Cut {
     pub carry: Carry,
     pub took: usize,

@@ -3,7 +3,7 @@ ghost use Rattle.std.specs.Prelude.{◌≡◌, ◌+◌, ◌*◌, ◌^◌, ◌≤
 ghost use Rattle.fields.specs.Digits.{char_of, digit_of, digits_at, fixed_in};
 
 // What a run of digits says.
-#[derive(Drop)]
+#[derive(Clone, Copy)]
 pub enum Digits {
     Said { n: u64 },
     Wrong,

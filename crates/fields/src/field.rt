@@ -6,7 +6,7 @@ ghost use Rattle.fields.specs.declared.digit.Digits.{Digits};
 use crate::spelling::{Spelling, in_range};
 
 // Its number and where the next field starts, or why it is refused.
-#[derive(Drop)]
+#[derive(Clone, Copy)]
 pub enum Field {
     Value { n: u64, next: usize },
     Form,

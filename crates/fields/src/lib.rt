@@ -1,4 +1,6 @@
 // Fields: digits, the one spelling of each number, splitting at tabs, certificates, days, putting bytes, and a stream cut into lines.
+#![tactic(auto)]
+
 pub mod certificate;
 pub mod cut;
 pub mod day;

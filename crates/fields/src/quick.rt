@@ -10,7 +10,7 @@ use crate::field::{Field, judged};
 use crate::spelling::Spelling;
 
 // Digits from a place on: the number that they say, and the place after them.
-#[derive(Drop)]
+#[derive(Clone, Copy)]
 pub struct Run {
     pub n: u64,
     pub end: usize,

@@ -4,7 +4,7 @@ ghost use Rattle.fields.specs.Field.{fits, limit};
 
 use units::limits::{FACTOR_SCALE, LABEL_TOP};
 
-#[derive(Drop)]
+#[derive(Clone, Copy)]
 pub enum Spelling {
     Decimal,
     Hex4,

@@ -27,7 +27,7 @@ pub fn ends_at(text: &[u8], at: usize) -> bool
 }
 
 // The tabs before a line's first line feed, and its place; the length where there is none.
-#[derive(Drop)]
+#[derive(Clone, Copy)]
 pub struct Scan {
     pub tabs: usize,
     pub feed: usize,

@@ -10,7 +10,7 @@ use units::reading::reading_place;
 use units::{Estimate, Numbers, Refusal, RoundLabel, StateLabel, Verdict};
 
 // What computing says of itself, and what it gives.
-#[derive(Drop)]
+#[derive(Clone, Copy)]
 pub struct Checked {
     pub verdict: Verdict,
     pub computed: Computed,

@@ -7,7 +7,7 @@ use crate::share::{targets_of, total_of};
 use units::{Estimate, Numbers, RoundLabel, StateLabel};
 
 // The new state and the targets.
-#[derive(Drop)]
+#[derive(Clone, Copy)]
 pub struct Computed {
     pub state: [Estimate; 16],
     pub targets: [f64; 16],

@@ -1,4 +1,6 @@
 // Computing: from a state and the chosen readings to the new state and the targets, bit for bit.
+#![tactic(auto)]
+
 pub mod checked;
 pub mod compute;
 pub mod limit;

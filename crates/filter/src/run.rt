@@ -7,7 +7,7 @@ use units::Estimate;
 use units::limits::{FACTOR_SCALE, VARIANCE_TOP, X_TOP};
 
 // What a round makes of a run: updated by its reading, or only predicted.
-#[derive(Drop)]
+#[derive(Clone, Copy)]
 pub enum Outcome {
     Updated { x: f64, variance: f64 },
     Predicted { variance: f64 },

@@ -1,6 +1,8 @@
 // Computes rounds on drawn inputs and writes the bits of each x, P and target, to be compared with a second program's (tests/filter/vectors.rs).
 // 144 stations, each with its own settings and start; 16 rounds each, the state carried on from round to round. Then a round in range and the same with
 // one clause of "in range" broken at a time; then 200 rounds of one run, in some of which (total × weight) / weight exceeds the total.
+#![tactic(auto)]
+
 ghost use Rattle.std.specs.Prelude.{◌<◌, ◌≤◌};
 
 use filter::Checked;

@@ -161,6 +161,6 @@ pub not_self : (v : Float) → eq v v ≡ false → v ≡ nan
 unfolding ne
 not_self v h = differs_from_itself v (subst (λ (b : Bool). T (not b)) (sym h) tt)
 
-pub nan_bits : bits_of nan ≡ 0x7ff8_0000_0000_0000
+pub nan_bits_lem : bits_of nan ≡ 0x7ff8_0000_0000_0000
 unfolding bits_of to_bits
-nan_bits = refl
+nan_bits_lem = refl

@@ -2,6 +2,8 @@
 // Before each line stand seven bytes: what it is for, m in two digits, its length in three digits, a line feed.
 // It is for a group of g controllers, for the settings (S), to begin the settings anew (Z) or for input that ends within them (T);
 // or it says what is handed over as a value: a number of X (X), or a place of the settings read last that is changed (W).
+#![tactic(auto)]
+
 ghost use Rattle.std.specs.Prelude.{◌≤◌};
 
 use floats::bits::bits_of;

@@ -3,7 +3,7 @@ ghost use Rattle.std.specs.Prelude.{◌≡◌};
 ghost use Rattle.lines.specs.Table.{kind_of, letter_of};
 
 // M Q R A U D S C E V F B X, and the settings' G N K.
-#[derive(Drop)]
+#[derive(Clone, Copy)]
 pub enum Kind {
     Reading,
     Query,
@@ -24,7 +24,7 @@ pub enum Kind {
 }
 
 // What the letter of a line names here.
-#[derive(Drop)]
+#[derive(Clone, Copy)]
 pub enum Found {
     Known(Kind),
     Unknown,

@@ -1,4 +1,6 @@
 // Lines: every kind of line read and written in its one spelling, and the settings lines.
+#![tactic(auto)]
+
 pub mod kind;
 pub mod numbers;
 pub mod read;

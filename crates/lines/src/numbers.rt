@@ -12,7 +12,7 @@ use units::mask::has;
 use units::{Estimate, Group};
 
 // The first n of these numbers count.
-#[derive(Drop)]
+#[derive(Clone, Copy)]
 pub struct LineNumbers {
     pub n: usize,
     pub v: [u64; 34],

@@ -18,7 +18,7 @@ use units::limits::LINE;
 use units::{Group, Refusal, Verdict};
 
 // A line's verdict, and its message; of a refused line X with its number.
-#[derive(Drop)]
+#[derive(Clone, Copy)]
 pub struct Line {
     pub verdict: Verdict,
     pub message: Message,
@@ -93,7 +93,7 @@ pub fn read(line: &[u8], group: Group) -> Line
 }
 
 // What the reader says of an input's first line, and the place of its line feed; the input's length where there is none.
-#[derive(Drop)]
+#[derive(Clone, Copy)]
 pub struct First {
     pub line: Line,
     pub feed: usize,

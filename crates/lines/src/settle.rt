@@ -16,13 +16,13 @@ use units::limits::LINE;
 use units::{Group, Numbers, Refusal, Verdict};
 
 // What is read so far, and the number of the next line, from 1. Nobody outside puts one together: it comes from a start and lines taken.
-#[derive(Drop)]
+#[derive(Clone, Copy)]
 pub struct Settling {
     pub(crate) line: u32,
     pub(crate) settings: Settings,
 }
 
-#[derive(Drop)]
+#[derive(Clone, Copy)]
 pub enum Standing {
     More,
     Whole,
@@ -42,7 +42,7 @@ impl Standing {
 }
 
 // What a line led to: what is read now, and whether more lines are wanted.
-#[derive(Drop)]
+#[derive(Clone, Copy)]
 pub struct Settled {
     pub next: Settling,
     pub answer: Standing,

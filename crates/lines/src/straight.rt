@@ -14,7 +14,7 @@ use fields::{Field, read_decimal_here, read_here};
 use units::Group;
 
 // Whether all is as it should be so far, and the place after what is read.
-#[derive(Drop)]
+#[derive(Clone, Copy)]
 pub struct Trail {
     pub good: bool,
     pub at: usize,

@@ -14,7 +14,7 @@ use units::limits::{
 use units::mask::mask_end;
 
 // What can stand at a place of a line, but for a certificate.
-#[derive(Drop)]
+#[derive(Clone, Copy)]
 pub enum Quantity {
     Sender,
     RunNumber,
@@ -37,7 +37,7 @@ pub enum Quantity {
 }
 
 // A place's spelling, and the range of its number, both ends among it.
-#[derive(Drop)]
+#[derive(Clone, Copy)]
 pub struct Limit {
     pub spelling: Spelling,
     pub low: u64,

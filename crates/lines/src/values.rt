@@ -12,7 +12,7 @@ use fields::{Field, read_at};
 use units::{Group, Refusal, Verdict};
 
 // How far a walk over fields came, and where the next field starts.
-#[derive(Drop)]
+#[derive(Clone, Copy)]
 pub struct Walk {
     pub verdict: Verdict,
     pub at: usize,

@@ -13,7 +13,7 @@ use fields::{put_at, width};
 use message::{Head, Message};
 use units::{Group, Refusal};
 
-#[derive(Drop)]
+#[derive(Clone, Copy)]
 pub enum Written {
     Done { len: usize },
     Refused(Refusal),

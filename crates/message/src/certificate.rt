@@ -6,7 +6,7 @@ use units::bytes::is_visible;
 use units::limits::CERTIFICATE;
 
 // The first `len` bytes count, the others are 0. A place that is no run has len 0.
-#[derive(Drop)]
+#[derive(Clone, Copy)]
 pub struct Certificate {
     pub len: usize,
     pub bytes: [u8; 16],

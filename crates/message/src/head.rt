@@ -8,7 +8,7 @@ use units::{Group, RoundLabel, StateLabel, is_number};
 use vote::Digest;
 
 // The kinds of line, in the order of document 01: M Q R A U D S C E V F B X.
-#[derive(Drop)]
+#[derive(Clone, Copy)]
 pub enum Head {
     Reading {
         label: RoundLabel,
@@ -65,7 +65,7 @@ pub enum Head {
 }
 
 // The runs whose readings a message carries, as a mask, and how many runs' estimates and targets.
-#[derive(Drop)]
+#[derive(Clone, Copy)]
 pub struct Carried {
     pub readings: u32,
     pub estimates: usize,

@@ -1,4 +1,6 @@
 // Every message as a value, the settings as a value, and what is in range of them.
+#![tactic(auto)]
+
 pub mod certificate;
 pub mod head;
 pub mod readings;

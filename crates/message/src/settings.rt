@@ -7,7 +7,7 @@ use units::Numbers;
 use units::limits::RUNS;
 
 // The numbers that G, N and K give, and each run's certificate.
-#[derive(Drop)]
+#[derive(Clone, Copy)]
 pub struct Settings {
     pub numbers: Numbers,
     pub certificates: [Certificate; 16],

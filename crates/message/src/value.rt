@@ -7,7 +7,7 @@ use crate::readings::readings_in_range;
 use floats::ranges::{state_in_range, targets_in_range};
 use units::{Estimate, Group};
 
-#[derive(Drop)]
+#[derive(Clone, Copy)]
 pub struct Message {
     pub head: Head,
     pub readings: [u32; 16],

@@ -1,7 +1,7 @@
 // The part of a controller's state that a handler goes by.
 use units::{RoundLabel, StateLabel};
 
-#[derive(Drop)]
+#[derive(Clone, Copy)]
 pub enum Phase {
     Idle,
     Collecting,
@@ -10,7 +10,7 @@ pub enum Phase {
 }
 
 // Own number, phase, current label, state label, and the runs whose readings are held.
-#[derive(Drop)]
+#[derive(Clone, Copy)]
 pub struct Brief {
     pub own: usize,
     pub phase: Phase,

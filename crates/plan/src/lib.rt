@@ -1,4 +1,6 @@
 // What a message leads to, as a small value: an effect on the controller, what is sent, and what the step says.
+#![tactic(auto)]
+
 pub mod brief;
 pub mod judge;
 pub mod planned;

@@ -8,7 +8,7 @@ use units::{Refusal, RoundLabel, StateLabel, Verdict};
 use vote::Digest;
 
 // What becomes of the controller.
-#[derive(Drop)]
+#[derive(Clone, Copy)]
 pub enum Effect {
     // Nothing changes.
     Keep,
@@ -56,7 +56,7 @@ pub enum Effect {
 }
 
 // How much an effect changes: nothing, one reading, or more than that.
-#[derive(Drop)]
+#[derive(Clone, Copy)]
 pub enum Change {
     Nothing,
     Reading { run: usize, raw: u32 },
@@ -94,13 +94,13 @@ impl Effect {
 }
 
 // A message to send, but for the arrays of R, U and S, which are those of the controller after the step.
-#[derive(Drop)]
+#[derive(Clone, Copy)]
 pub enum Sent {
     Nothing,
     One(Head),
 }
 
-#[derive(Drop)]
+#[derive(Clone, Copy)]
 pub struct Plan {
     pub effect: Effect,
     pub first: Sent,

@@ -12,14 +12,14 @@ use lines::write::Written;
 use units::limits::LINE;
 use units::{Refusal, Verdict};
 
-#[derive(Drop)]
+#[derive(Clone, Copy)]
 pub struct Session {
     pub(crate) core: Core,
     pub(crate) carry: Carry,
 }
 
 // The session after a call, how much of the input it took, how much it wrote, and 16 where there was too little room.
-#[derive(Drop)]
+#[derive(Clone, Copy)]
 pub struct Fed {
     pub next: Session,
     pub took: usize,

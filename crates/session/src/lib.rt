@@ -1,4 +1,6 @@
 // The station program as a library on byte slices: settings first, then a controller; bytes in, bytes out.
+#![tactic(auto)]
+
 pub mod answer;
 pub mod carry;
 pub mod feed;

@@ -17,7 +17,7 @@ use units::{Numbers, Verdict};
 const ROOM: usize = 2 * LINE;
 
 // The controller after the lines that were taken, how many bytes they have, and how many were written.
-#[derive(Drop)]
+#[derive(Clone, Copy)]
 pub struct Ran {
     pub(crate) next: Controller,
     pub(crate) took: usize,

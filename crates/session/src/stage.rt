@@ -6,7 +6,7 @@ use controller::Controller;
 use lines::settle::Settling;
 use units::{Numbers, RoundLabel};
 
-#[derive(Drop)]
+#[derive(Clone, Copy)]
 pub enum Stage {
     Settling,
     Waiting,
@@ -15,7 +15,7 @@ pub enum Stage {
 }
 
 // The settings read so far, and the controller, which counts once it runs.
-#[derive(Drop)]
+#[derive(Clone, Copy)]
 pub struct Core {
     pub(crate) stage: Stage,
     pub(crate) settling: Settling,

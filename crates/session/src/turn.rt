@@ -19,7 +19,7 @@ use lines::write::{Written, write_refusal};
 use message::{Head, Message};
 use units::{Refusal, RoundLabel, Verdict};
 
-#[derive(Drop)]
+#[derive(Clone, Copy)]
 pub struct Turned {
     pub(crate) next: Core,
     pub(crate) written: Written,

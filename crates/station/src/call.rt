@@ -4,7 +4,7 @@ ghost use Rattle.station.specs.Calls.{is_moved, moved_by, outcome_of, reads_left
 
 use libc::EINTR;
 
-#[derive(Drop)]
+#[derive(Clone, Copy)]
 pub enum Outcome {
     Moved(usize),
     Again,

@@ -6,7 +6,7 @@ use crate::call::{Outcome, budget, is_moved, meaning, moved, reads_left};
 use libc::STDIN_FILENO;
 
 // How many bytes came, none at the end of the input; or reading failed.
-#[derive(Drop)]
+#[derive(Clone, Copy)]
 pub struct Heard {
     pub have: usize,
     pub ok: bool,

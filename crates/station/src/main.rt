@@ -1,4 +1,6 @@
 // The station program: reads a block, hands it to the session, writes what it answers, and stops at the first failure.
+#![tactic(auto)]
+
 mod call;
 mod hear;
 mod say;
@@ -15,7 +17,7 @@ use say::say;
 use session::Session;
 
 // A session that was handed something: how much it took, how much it answered, and whether that was written.
-#[derive(Drop)]
+#[derive(Clone, Copy)]
 struct Handed {
     next: Session,
     took: usize,
@@ -49,7 +51,7 @@ fn goes_on(at: usize, have: usize, written: bool) -> bool
 }
 
 // A session after a block, and whether all its answers were written.
-#[derive(Drop)]
+#[derive(Clone, Copy)]
 struct Served {
     next: Session,
     written: bool,

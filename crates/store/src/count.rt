@@ -6,7 +6,7 @@ use crate::gather::ROWS;
 use fields::text::LINE_FEED;
 
 // The lines so far, and whether the last has not ended.
-#[derive(Drop)]
+#[derive(Clone, Copy)]
 pub struct Count {
     pub(crate) lines: usize,
     pub(crate) within: bool,

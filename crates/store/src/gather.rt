@@ -11,14 +11,14 @@ use units::Verdict;
 pub const ROWS: usize = 512;
 
 // The first n rows count.
-#[derive(Drop)]
+#[derive(Clone, Copy)]
 pub struct Table {
     pub n: usize,
     pub rows: [Row; ROWS],
 }
 
 // All lines as rows, or why one was refused, and its number from 1.
-#[derive(Drop)]
+#[derive(Clone, Copy)]
 pub struct Gathered {
     pub verdict: Verdict,
     pub line: u32,

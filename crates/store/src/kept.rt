@@ -17,14 +17,14 @@ use units::limits::LINE;
 pub const KEPT: usize = ROWS * LINE + 1;
 
 // How many bytes are kept, in a buffer that is lent, and the count of all that came.
-#[derive(Drop)]
+#[derive(Clone, Copy)]
 pub struct Kept {
     pub(crate) len: usize,
     pub(crate) count: Count,
 }
 
 // How many bytes are to be written, and where a refusal's cause stands.
-#[derive(Drop)]
+#[derive(Clone, Copy)]
 pub struct Told {
     pub len: usize,
     pub place: Place,

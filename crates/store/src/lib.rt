@@ -1,4 +1,6 @@
 // The store's certificates: an export read, the newest of each meter found, and the K lines written.
+#![tactic(auto)]
+
 pub mod count;
 pub mod gather;
 pub mod kept;

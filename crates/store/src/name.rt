@@ -8,7 +8,7 @@ use message::Certificate;
 use units::limits::CERTIFICATE;
 
 // The name that a field is, and where the next field starts; not fit where it is none.
-#[derive(Drop)]
+#[derive(Clone, Copy)]
 pub struct Named {
     pub fit: bool,
     pub next: usize,

@@ -14,7 +14,7 @@ use units::limits::RUNS;
 use units::{Group, Numbers};
 
 // Row i is run i's, for the m runs.
-#[derive(Drop)]
+#[derive(Clone, Copy)]
 pub struct Picked {
     pub m: usize,
     pub rows: [Row; 16],

@@ -8,7 +8,7 @@ use message::Certificate;
 use units::limits::{FACTOR_LOW, FACTOR_TOP, LINE};
 use units::{Refusal, Verdict};
 
-#[derive(Drop)]
+#[derive(Clone, Copy)]
 pub struct Row {
     pub serial: Certificate,
     pub day: u64,
@@ -17,7 +17,7 @@ pub struct Row {
 }
 
 // What a line is: a row, or refused with no row.
-#[derive(Drop)]
+#[derive(Clone, Copy)]
 pub struct Entry {
     pub verdict: Verdict,
     pub row: Row,

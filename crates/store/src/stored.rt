@@ -7,14 +7,14 @@ use message::Certificate;
 use units::Refusal;
 
 // The serials of the meters in run order; places at m and above are not looked at.
-#[derive(Drop)]
+#[derive(Clone, Copy)]
 pub struct Serials {
     pub m: usize,
     pub each: [Certificate; 16],
 }
 
 // Where a refusal's cause stands.
-#[derive(Drop)]
+#[derive(Clone, Copy)]
 pub enum Place {
     Nowhere,
     Line { line: u32 },
@@ -24,7 +24,7 @@ pub enum Place {
 }
 
 // How many bytes the K lines have, or why there are none.
-#[derive(Drop)]
+#[derive(Clone, Copy)]
 pub enum Stored {
     Done { len: usize },
     Refused { why: Refusal, place: Place },

@@ -1,6 +1,8 @@
 // Reads cases of the store and writes what each is answered and what its buffer then holds, to be compared with a second program's (tests/store/vectors.rs).
 // A case is a line `EEEEE DD MM BBB` (bytes of the export, bytes of the day, m, places of the buffer), the export, the day, and sixteen serials:
 // two digits for the length, and sixteen bytes.
+#![tactic(auto)]
+
 ghost use Rattle.std.specs.Prelude.{◌+◌, ◌≤◌, ◌<◌, length};
 
 use fields::{Digits, read_digits};

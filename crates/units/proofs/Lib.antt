@@ -3,7 +3,7 @@ pub mod Every
 pub mod Masks
 pub mod Scan
 pub mod Picked
-pub mod Numbers
+pub mod TheNumbers
 pub mod Tab
 pub mod InRange
 pub mod Refusals

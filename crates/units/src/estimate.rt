@@ -1,5 +1,5 @@
 // What is carried of one run from round to round.
-#[derive(Drop)]
+#[derive(Clone, Copy)]
 pub struct Estimate {
     pub x: f64,
     pub variance: f64,

@@ -5,11 +5,11 @@ ghost use Rattle.units.specs.Labels.{before, correction, floor_fits, issued_stat
 use crate::limits::{LABEL_TOP, ROUND_LOW};
 
 // The label of a round.
-#[derive(Drop)]
+#[derive(Clone, Copy)]
 pub struct RoundLabel(pub u32);
 
 // The label of a state: that of the round that left it, 0 at a start.
-#[derive(Drop)]
+#[derive(Clone, Copy)]
 pub struct StateLabel(pub u32);
 
 impl RoundLabel {

@@ -1,4 +1,6 @@
 // The ground that every layer stands on: labels, refusals, limits, masks, estimates and the numbers of the settings.
+#![tactic(auto)]
+
 pub mod bytes;
 pub mod estimate;
 pub mod labels;

@@ -4,7 +4,7 @@ ghost use Rattle.units.specs.Refusal.{is_number, number_of, verdict_number};
 
 use crate::limits::{NUMBER_LOW, NUMBER_TOP};
 
-#[derive(Drop)]
+#[derive(Clone, Copy)]
 pub enum Refusal {
     Long,
     Unended,
@@ -63,7 +63,7 @@ pub fn is_number(n: u32) -> bool
 }
 
 // What an act says of itself: taken, or refused.
-#[derive(Drop)]
+#[derive(Clone, Copy)]
 pub enum Verdict {
     Taken,
     Refused(Refusal),

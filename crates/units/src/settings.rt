@@ -9,7 +9,7 @@ use crate::limits::{
 };
 
 // g controllers and m runs.
-#[derive(Drop)]
+#[derive(Clone, Copy)]
 pub struct Group {
     pub g: usize,
     pub m: usize,
@@ -24,7 +24,7 @@ impl Group {
 }
 
 // The settings without their certificates; places at m and above hold 0.
-#[derive(Drop)]
+#[derive(Clone, Copy)]
 pub struct Numbers {
     pub group: Group,
     pub q: u32,

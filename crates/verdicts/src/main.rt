@@ -1,4 +1,6 @@
 // Prints what `winner` and `decide` say of document 01's cases v1 to v12, of digests of each place in the order, and of votes with one clause of "in range" broken at a time.
+#![tactic(auto)]
+
 use libc::STDOUT_FILENO;
 use units::{Group, RoundLabel, StateLabel};
 use vote::{Ballot, Decision, Digest, Poll, Seat, Votes};

@@ -12,7 +12,7 @@ use borrow.Author.Tests.{eq-eqb, ne_eqb}
 use Rattle.units.specs.declared.refusal.Refusal.TheVariants.{Range}
 use Rattle.units.specs.Pick.{pick}
 use Rattle.units.proofs.Every.{absurd_by}
-use Rattle.units.proofs.Numbers.{six}
+use Rattle.units.proofs.TheNumbers.{six}
 use Rattle.vote.specs.declared.digest.Digest.{Digest}
 use Rattle.vote.specs.declared.votes.Ballot.{Ballot}
 use Rattle.vote.specs.declared.votes.Ballot.TheVariants.{Missing, Cast}

@@ -8,7 +8,7 @@ use units::mask::{mask_end, mask_in_range};
 use units::{RoundLabel, StateLabel};
 
 // What a controller votes: the runs whose readings it holds, and the state that it holds.
-#[derive(Drop)]
+#[derive(Clone, Copy)]
 pub struct Digest {
     pub mask: u32,
     pub state: StateLabel,

@@ -8,7 +8,7 @@ use crate::votes::Votes;
 use units::{Group, Refusal, RoundLabel};
 
 // What a set of votes is decided for.
-#[derive(Drop)]
+#[derive(Clone, Copy)]
 pub enum Decision {
     Refused(Refusal),
     Undecided,
@@ -16,7 +16,7 @@ pub enum Decision {
 }
 
 // The winner among the votes that are there.
-#[derive(Drop)]
+#[derive(Clone, Copy)]
 pub enum Poll {
     Refused(Refusal),
     Nobody,

@@ -1,4 +1,6 @@
 // The vote: digests and their order, the winner, and what every completion of a set of votes has as its winner.
+#![tactic(auto)]
+
 pub mod digest;
 pub mod judge;
 pub mod ranks;

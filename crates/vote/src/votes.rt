@@ -6,20 +6,20 @@ use crate::digest::Digest;
 use units::limits::CONTROLLERS;
 use units::{Group, RoundLabel};
 
-#[derive(Drop)]
+#[derive(Clone, Copy)]
 pub enum Ballot {
     Missing,
     Cast(Digest),
 }
 
 // A controller's place in the vote.
-#[derive(Drop)]
+#[derive(Clone, Copy)]
 pub struct Seat {
     pub ballot: Ballot,
 }
 
 // The votes of the round `label` in a group of g controllers and m runs: seats 0..g-1 count.
-#[derive(Drop)]
+#[derive(Clone, Copy)]
 pub struct Votes {
     pub group: Group,
     pub label: RoundLabel,
