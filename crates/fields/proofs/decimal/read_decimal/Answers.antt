@@ -1,0 +1,62 @@
+-- `read_decimal` meets its contract: what is left of the field, after the exact number so far, says what the whole says. Assumes nothing.
+use mathlib.Core.Path.{ap}
+use mathlib.Core.Bool.{not}
+use Prim.Native.Nat.{◌-◌}
+use native.Mathlib.Omega.{arith}
+use mathlib.Core.Path.{refl, sym}
+use mathlib.Core.Logic.{⊎_elim}
+use Rattle.fields.proofs.Reading.{read_start, plain_within, decimal_form, decimal_value, decimal_wrong, ends_none, ends_tab, long_again, read_grown, read_kept}
+use Rattle.fields.proofs.decimal.read_decimal.Goals as goal
+
+pub returns-then-not-is_plain : goal.returns-then-not-is_plain
+returns-then-not-is_plain c = decimal_form _ _ _ _ _ c.is_plain.ensures (ap not c.if-not-is_plain.true)
+
+pub loop-i-init : goal.loop-i-init
+loop-i-init c = (plain_within _ _ _ c.is_plain.ensures (ap not c.if-not-is_plain.false), refl, read_start _ _ refl)
+
+pub returns-then-b-eq-TAB : goal.returns-then-b-eq-TAB
+returns-then-b-eq-TAB c = let l = c.loop-i in
+    decimal_value _ _ _ _ _ c.is_plain.ensures (ap not c.if-not-is_plain.false) _ _ l.invariant.2 _ l.invariant.1
+    (ends_tab _ _ c.loop-i-test.true c.if-b-eq-TAB.true) c.judged.ensures
+
+pub returns-then-d-gt9 : goal.returns-then-d-gt9
+returns-then-d-gt9 c = let l = c.loop-i in
+    decimal_wrong _ _ _ _ _ c.is_plain.ensures (ap not c.if-not-is_plain.false) _ _ l.invariant.2
+    c.loop-i-test.true c.if-b-eq-TAB.false _ c.digit-d.ensures c.if-d-gt9.true
+
+pub loop-i-preserved : goal.loop-i-preserved
+loop-i-preserved c = let l = c.loop-i in
+    let h = c.loop-i-test.true in
+    let n = c.if-b-eq-TAB.false in
+    let e = c.digit-d.ensures in
+    let w = c.if-d-gt9.false in (
+      omega arith,
+      long_again _ _ _ _ l.invariant.2 h n _ e _ l.invariant.1,
+      ⊎_elim (λ x. rw x.1 (read_grown _ _ _ _ l.invariant.2 h n _ e (omega arith) x.0.taken)) (λ x. rw x.1 (read_kept _ _ _ _ l.invariant.2 h n _ e (omega arith) x.0.left)) c.if-n.branch,
+    )
+
+pub returns : goal.returns
+returns c = let l = c.loop-i in
+    decimal_value _ _ _ _ _ c.is_plain.ensures (ap not c.if-not-is_plain.false) _ _ l.invariant.2 _ l.invariant.1
+    (sym (ends_none _ _ c.loop-i-test.false)) c.judged-2.ensures
+
+pub bounds-text-i : goal.bounds-text-i
+bounds-text-i c = omega arith
+
+pub overflow_add-i : goal.overflow_add-i
+overflow_add-i c = omega arith
+
+pub overflow_mul-n : goal.overflow_mul-n
+overflow_mul-n c = omega arith
+
+pub overflow_add-n : goal.overflow_add-n
+overflow_add-n c = omega arith
+
+pub overflow_add-i-in-loop-i : goal.overflow_add-i-in-loop-i
+overflow_add-i-in-loop-i c = omega arith
+
+pub loop-i-smaller : goal.loop-i-smaller
+loop-i-smaller c = omega arith
+
+pub overflow_add-i-2 : goal.overflow_add-i-2
+overflow_add-i-2 c = omega arith

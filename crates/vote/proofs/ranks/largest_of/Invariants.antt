@@ -1,0 +1,12 @@
+-- `largest_of` meets its contract: the largest so far and the largest of the rest make the whole. Assumes nothing.
+use Prim.Native.Nat.{◌-◌, ◌≤◌, max}
+use mathlib.Core.Path.{◌≡◌}
+use lib.ListN.{drop}
+use Rattle.vote.specs.Decision.{largest}
+use Rattle.vote.proofs.ranks.largest_of.Given as goal
+
+abbrev pub invariant-loop-i : goal.invariant-loop-i
+invariant-loop-i l = (l.i ≤ 7) × (max l.most (largest (drop l.i l.found)) ≡ largest l.found)
+
+abbrev pub decreases-loop-i : goal.decreases-loop-i
+decreases-loop-i l = 7 - l.i
