@@ -5,15 +5,12 @@ use Prim.Native.Nat.{◌-◌}
 use native.Mathlib.Omega.{arith}
 use mathlib.Core.Path.{◌≡◌, sym}
 use mathlib.Core.Bool.{true}
-use mathlib.Core.Logic.{⊎_elim}
 use lib.ListN.{drop}
 use Rattle.fields.specs.Text.{ends}
 use Rattle.fields.proofs.Reading.{ends_none, ends_tab}
 use Rattle.fields.proofs.Certificates.{seen_start, seen_wrong, seen_again, seen_right, seen_size}
 use Rattle.fields.proofs.certificate.certificate_end.Goals as goal
-
-left : (c : tie.Left-loop invariant-loop decreases-loop) → ends (drop c.loop-i.i c.args.text.now) ≡ true
-left c = ⊎_elim (λ w. sym (ends_none _ _ w.left)) (λ w. ends_tab _ _ w.0.taken w.2.taken) c.loop-i-test.branch
+use Rattle.fields.proofs.certificate.certificate_end.Goals.{else-loop-i-test, then-loop-i-test+then-b-eq-TAB}
 
 pub loop-i-init : goal.loop-i-init
 loop-i-init c = seen_start _ _
@@ -25,10 +22,14 @@ pub loop-i-preserved : goal.loop-i-preserved
 loop-i-preserved c = seen_again _ _ _ c.loop-i.invariant c.loop-i-test.true c.if-b-eq-TAB.false _ c.is_visible.ensures (ap not c.if-not-is_visible.false)
 
 pub returns-then-n : goal.returns-then-n
-returns-then-n c = seen_right _ _ _ c.loop-i.invariant (left c) c.if-n.true
+returns-then-n c = seen_right _ _ _ c.loop-i.invariant (elim c.loop-i-test.branch
+      [ else-loop-i-test w ↦ sym (ends_none _ _ w.loop-i-test.false)
+      | then-loop-i-test+then-b-eq-TAB w ↦ ends_tab _ _ w.loop-i-test.true w.if-b-eq-TAB.true ]) c.if-n.true
 
 pub returns : goal.returns
-returns c = seen_size _ _ _ c.loop-i.invariant (left c) c.if-n.false
+returns c = seen_size _ _ _ c.loop-i.invariant (elim c.loop-i-test.branch
+      [ else-loop-i-test w ↦ sym (ends_none _ _ w.loop-i-test.false)
+      | then-loop-i-test+then-b-eq-TAB w ↦ ends_tab _ _ w.loop-i-test.true w.if-b-eq-TAB.true ]) c.if-n.false
 
 pub bounds-text-i : goal.bounds-text-i
 bounds-text-i c = omega arith

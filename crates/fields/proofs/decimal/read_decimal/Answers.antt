@@ -7,6 +7,7 @@ use mathlib.Core.Path.{refl, sym}
 use mathlib.Core.Logic.{⊎_elim}
 use Rattle.fields.proofs.Reading.{read_start, plain_within, decimal_form, decimal_value, decimal_wrong, ends_none, ends_tab, long_again, read_grown, read_kept}
 use Rattle.fields.proofs.decimal.read_decimal.Goals as goal
+use Rattle.fields.proofs.decimal.read_decimal.Goals.{then-n, else-n}
 
 pub returns-then-not-is_plain : goal.returns-then-not-is_plain
 returns-then-not-is_plain c = decimal_form _ _ _ _ _ c.is_plain.ensures (ap not c.if-not-is_plain.true)
@@ -32,7 +33,9 @@ loop-i-preserved c = let l = c.loop-i in
     let w = c.if-d-gt9.false in (
       omega arith,
       long_again _ _ _ _ l.invariant.2 h n _ e _ l.invariant.1,
-      ⊎_elim (λ x. rw x.1 (read_grown _ _ _ _ l.invariant.2 h n _ e (omega arith) x.0.taken)) (λ x. rw x.1 (read_kept _ _ _ _ l.invariant.2 h n _ e (omega arith) x.0.left)) c.if-n.branch,
+      elim c.if-n.branch
+      [ then-n x ↦ rw x.n-is (read_grown _ _ _ _ l.invariant.2 h n _ e (omega arith) x.if-n.true)
+      | else-n x ↦ rw x.n-is (read_kept _ _ _ _ l.invariant.2 h n _ e (omega arith) x.if-n.false) ],
     )
 
 pub returns : goal.returns

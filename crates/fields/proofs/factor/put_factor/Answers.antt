@@ -29,9 +29,6 @@ overflow_add-at c = let a = c.args in let h = room_here _ a.at (2 + factor_digit
 pub put_decimal-requires : goal.put_decimal-requires
 put_decimal-requires c = let a = c.args in let h = room_here _ a.at (2 + factor_digits) (length a.buf.now) c.has_room.ensures (ap not c.if-not-has_room.false) in simp length-set (omega arith)
 
-pub UNKNOWN-same-length : goal.UNKNOWN-same-length
-UNKNOWN-same-length c = simp length-set at c.put_decimal.auto.0
-
 pub returns : goal.returns
 returns c = let a = c.args in
     factor_put a.buf.now a.at a.n c.if-whole-gt9.false _ c.has_room.ensures (ap not c.if-not-has_room.false)

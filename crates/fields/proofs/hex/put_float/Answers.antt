@@ -17,8 +17,5 @@ bounds-buf-at c = let w = c.loop-i.invariant in omega arith
 pub loop-i-preserved : goal.loop-i-preserved
 loop-i-preserved c = let a = c.args in let l = c.loop-i in left_step 16 16 a.n a.buf.now a.at l.buf l.i l.m l.invariant c.loop-i-test.true _ c.byte_of.ensures
 
-pub UNKNOWN-same-length : goal.UNKNOWN-same-length
-UNKNOWN-same-length c = let w = c.loop-i.invariant in omega arith
-
 pub returns : goal.returns
 returns c = let a = c.args in let l = c.loop-i in (refl, left_end 16 16 a.n a.buf.now a.at l.buf (a.at + l.i) l.m l.invariant (omega (arith, c.loop-i-test.false)))

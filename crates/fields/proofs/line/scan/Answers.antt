@@ -1,9 +1,9 @@
 -- `scan` meets its contract: after i bytes, the tabs passed and those left make the whole. Assumes nothing.
 use Prim.Native.Nat.{◌-◌}
 use native.Mathlib.Omega.{arith}
-use mathlib.Core.Logic.{⊎_elim}
 use Rattle.fields.proofs.Scans.{scan_start, scan_feed, scan_end, scan_tab, scan_other}
 use Rattle.fields.proofs.line.scan.Goals as goal
+use Rattle.fields.proofs.line.scan.Goals.{then-b-eq-TAB, else-b-eq-TAB}
 
 pub loop-i-init : goal.loop-i-init
 loop-i-init c = scan_start _
@@ -13,9 +13,9 @@ returns-then-b-eq-LINE_FEED c = scan_feed _ _ _ c.loop-i.invariant (omega arith)
 
 pub loop-i-preserved : goal.loop-i-preserved
 loop-i-preserved c = let l = c.loop-i in let n = c.if-b-eq-LINE_FEED.false in
-    ⊎_elim (λ w. rw w.1 (scan_tab _ _ _ l.invariant c.loop-i-test.true n w.0.taken))
-    (λ w. rw w.1 (scan_other _ _ _ l.invariant c.loop-i-test.true n w.0.left))
-    c.if-b-eq-TAB.branch
+    elim c.if-b-eq-TAB.branch
+    [ then-b-eq-TAB w ↦ rw w.tabs-is (scan_tab _ _ _ l.invariant c.loop-i-test.true n w.if-b-eq-TAB.true)
+    | else-b-eq-TAB w ↦ rw w.tabs-is (scan_other _ _ _ l.invariant c.loop-i-test.true n w.if-b-eq-TAB.false) ]
 
 pub returns : goal.returns
 returns c = scan_end _ _ _ c.loop-i.invariant (omega arith)

@@ -6,13 +6,13 @@ pub returns-then-text-at : goal.returns-then-text-at
 returns-then-text-at c = here_past _ _ _ _ _ c.if-text-at.true
 
 pub returns-in-Decimal : goal.returns-in-Decimal
-returns-in-Decimal c = here_same _ _ _ _ _ _ _ c.enum_told.given.1 c.decimal_here.ensures
+returns-in-Decimal c = here_same _ _ _ _ _ _ _ c.in-Decimal.is c.decimal_here.ensures
 
 pub returns-in-Hex4 : goal.returns-in-Hex4
-returns-in-Hex4 c = here_same _ _ _ _ _ _ _ c.enum-told2.given.1 c.mask_here.ensures
+returns-in-Hex4 c = here_same _ _ _ _ _ _ _ c.in-Hex4.is c.mask_here.ensures
 
 pub returns-in-Hex16 : goal.returns-in-Hex16
-returns-in-Hex16 c = here_same _ _ _ _ _ _ _ c.enum-told3.given.1 c.float_here.ensures
+returns-in-Hex16 c = here_same _ _ _ _ _ _ _ c.in-Hex16.is c.float_here.ensures
 
 pub returns-in-Factor : goal.returns-in-Factor
-returns-in-Factor c = here_factor _ _ _ _ _ c.enum-told4.given.1
+returns-in-Factor c = here_factor _ _ _ _ _ c.in-Factor.is

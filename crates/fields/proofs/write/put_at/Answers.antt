@@ -22,21 +22,21 @@ pub put_float-requires : goal.put_float-requires
 put_float-requires c =
     let a = c.args in
     float_room a.spelling a.n _ c.limit.ensures c.if-limit-n.false _
-    c.width-k.ensures c.enum-told3.given.1 _ a.at a.buf.now c.has_room.ensures
+    c.width-k.ensures c.in-Hex16.is _ a.at a.buf.now c.has_room.ensures
     (ap not c.if-not-has_room.false)
 
 pub returns-in-Decimal : goal.returns-in-Decimal
 returns-in-Decimal c = let a = c.args in
     let w = c.width-k.ensures in
     put_digits a.spelling a.n _ a.buf.now _ _ a.at _ _ c.has_room.ensures (ap not c.if-not-has_room.false) w
-    (digits_decimal a.spelling a.n _ c.limit.ensures c.if-limit-n.false _ w c.enum_told.given.1)
+    (digits_decimal a.spelling a.n _ c.limit.ensures c.if-limit-n.false _ w c.in-Decimal.is)
     c.put_decimal.ensures.0 c.put_decimal.ensures.1
 
 pub returns-in-Hex4 : goal.returns-in-Hex4
 returns-in-Hex4 c = let a = c.args in
     let w = c.width-k.ensures in
     put_digits a.spelling a.n _ a.buf.now _ _ a.at _ _ c.has_room.ensures (ap not c.if-not-has_room.false) w
-    (digits_hex4 a.spelling a.n _ c.limit.ensures c.if-limit-n.false _ w c.enum-told2.given.1)
+    (digits_hex4 a.spelling a.n _ c.limit.ensures c.if-limit-n.false _ w c.in-Hex4.is)
     c.put_hex.ensures.0 c.put_hex.ensures.1
 
 pub returns-in-Hex16 : goal.returns-in-Hex16
@@ -44,8 +44,8 @@ returns-in-Hex16 c =
     let a = c.args in
     float_put a.spelling a.n _ c.limit.ensures
     c.if-limit-n.false _ c.width-k.ensures
-    c.enum-told3.given.1 _ a.at a.buf.now c.has_room.ensures
+    c.in-Hex16.is _ a.at a.buf.now c.has_room.ensures
     (ap not c.if-not-has_room.false) _ _ c.put_float.ensures.0 c.put_float.ensures.1
 
 pub returns-in-Factor : goal.returns-in-Factor
-returns-in-Factor c = let a = c.args in put_same a.spelling Factor a.n a.buf.now _ a.at _ c.enum-told4.given.1 c.put_factor.ensures
+returns-in-Factor c = let a = c.args in put_same a.spelling Factor a.n a.buf.now _ a.at _ c.in-Factor.is c.put_factor.ensures
