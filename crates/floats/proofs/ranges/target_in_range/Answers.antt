@@ -8,4 +8,4 @@ use Rattle.floats.proofs.Limits.{target_limit, bits_test}
 use Rattle.floats.proofs.ranges.target_in_range.Goals as goal
 
 pub returns : goal.returns
-returns c = ap (λ (b : ℕ). leb b target_bits) c.bits_of.ensures ∙ bits_test target_top target_bits target_limit c.args.target c.good.0.1
+returns c = ap (λ (b : ℕ). leb b target_bits) c.bits_of.ensures ∙ bits_test target_top target_bits target_limit c.args.target c.well_formed.0.1

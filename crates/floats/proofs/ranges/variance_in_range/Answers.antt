@@ -8,4 +8,4 @@ use Rattle.floats.proofs.Limits.{variance_limit, bits_test}
 use Rattle.floats.proofs.ranges.variance_in_range.Goals as goal
 
 pub returns : goal.returns
-returns c = ap (λ (b : ℕ). leb b variance_bits) c.bits_of.ensures ∙ bits_test variance_top variance_bits variance_limit c.args.variance c.good.0.1
+returns c = ap (λ (b : ℕ). leb b variance_bits) c.bits_of.ensures ∙ bits_test variance_top variance_bits variance_limit c.args.variance c.well_formed.0.1

@@ -8,4 +8,4 @@ use Rattle.floats.proofs.Limits.{x_limit, bits_test}
 use Rattle.floats.proofs.ranges.x_in_range.Goals as goal
 
 pub returns : goal.returns
-returns c = ap (λ (b : ℕ). leb b x_bits) c.bits_of.ensures ∙ bits_test x_top x_bits x_limit c.args.x c.good.0.1
+returns c = ap (λ (b : ℕ). leb b x_bits) c.bits_of.ensures ∙ bits_test x_top x_bits x_limit c.args.x c.well_formed.0.1
