@@ -9,6 +9,9 @@ use denote.Enum.Declared.{tag_of}
 use mir.Val.{has_key}
 use types.Run.{OneOf, miss}
 use Rattle.units.proofs.Every.{no_way}
+use Rattle.units.specs.declared.labels.RoundLabel.{RoundLabel}
+use Rattle.units.specs.declared.labels.StateLabel.{StateLabel}
+use Rattle.vote.specs.declared.digest.Digest.{Digest}
 use Rattle.message.specs.declared.head.Head.{Head}
 use Rattle.message.specs.declared.head.Head.TheVariants.{Reading, Query, Reply, Advert, Update, Vote, Setpoints, Due, CollectingEnds, VotingEnds, Floor, Start, Refused}
 use Rattle.message.specs.View.{Seen, as_reading, to_reading, as_reply, to_reply, as_update, to_update, as_vote, to_vote, as_issue, to_issue, as_floor, to_floor, as_start, to_start, is_exchanged, is_telling}
@@ -171,3 +174,12 @@ uncarrying = 0 ∷ 1 ∷ 3 ∷ 5 ∷ 7 ∷ 8 ∷ 9 ∷ 10 ∷ 11 ∷ 12 ∷ []
 
 pub not_carrying : (h : Head) → OneOf uncarrying (tag_of the_type h) → (as_reply h ≡ none) × (as_update h ≡ none) × (as_issue h ≡ none)
 not_carrying h o = (unlisted uncarrying 2 (λ v. refl) tt (reply_seen h) o, unlisted uncarrying 4 (λ v. refl) tt (update_seen h) o, unlisted uncarrying 6 (λ v. refl) tt (issue_seen h) o)
+
+-- the same, where the arm is told of each kind before it that the head is not of that kind
+pub unlike : {A : Type 0} {make : A → Head} {view : Head → Option A} {h : Head} → ((v : A) → h ≡ make v → ⊥) → Seen make view h → view h ≡ none
+unlike n (it v) = absurd (n v refl)
+unlike n (other e) = e
+
+pub none_carrying : (h : Head) → ((s : ℕ) (l : RoundLabel) (m : ℕ) → h ≡ Reply s l m → ⊥) → ((s : ℕ) (t : StateLabel) → h ≡ Update s t → ⊥)
+    → ((s : ℕ) (l : RoundLabel) (d : Digest) → h ≡ Setpoints s l d → ⊥) → (as_reply h ≡ none) × (as_update h ≡ none) × (as_issue h ≡ none)
+none_carrying h r u s = (unlike (λ v. r v.0 v.1 v.2) (reply_seen h), unlike (λ v. u v.0 v.1) (update_seen h), unlike (λ v. s v.0 v.1 v.2) (issue_seen h))

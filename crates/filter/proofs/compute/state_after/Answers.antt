@@ -6,4 +6,4 @@ use Rattle.filter.proofs.compute.state_after.Goals as goal
 
 pub returns : goal.returns
 unfolding new_state
-returns c = let a = c.args in c.Runs-after.ensures ∙ ap (λ (n : ℕ). runs_after a.state n a.numbers a.chosen a.readings) c.since.ensures
+returns c = let a = c.args in c.runs_after.ensures ∙ ap (λ (n : ℕ). runs_after a.state n a.numbers a.chosen a.readings) c.since.ensures

@@ -7,4 +7,4 @@ use Rattle.filter.proofs.compute.targets_from.Goals as goal
 
 pub returns : goal.returns
 unfolding set_points
-returns c = c.Targets-of.ensures ∙ ap (λ (t : Float). targets t c.args.numbers) c.total_of.ensures
+returns c = c.targets_of.ensures ∙ ap (λ (t : Float). targets t c.args.numbers) c.total_of.ensures

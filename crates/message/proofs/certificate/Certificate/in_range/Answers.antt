@@ -2,19 +2,15 @@
 use native.Mathlib.Omega.{arith}
 use Prim.Native.Nat.{ℕ, ◌-◌}
 use mathlib.Core.Path.{◌≡◌, ap, ◌∙◌}
-use mathlib.Core.Bool.{Bool, ◌&&◌}
-use lib.Dec.{eqb}
+use mathlib.Core.Bool.{◌&&◌}
 use lib.ListN.{length}
 use Rattle.units.specs.Every.{every}
 use Rattle.units.proofs.Scan.{length_mapped}
 use Rattle.units.proofs.Every.{every_none, every_from}
-use Rattle.message.specs.declared.certificate.Certificate.{Certificate}
 use Rattle.message.specs.Settings.{len_fits, byte_at, certificate_fits}
 use Rattle.message.proofs.Lengths.{with_length}
+use Rattle.message.proofs.certificate.Certificate.in_range.Invariants.{head}
 use Rattle.message.proofs.certificate.Certificate.in_range.Goals as goal
-
-abbrev head : Bool → Certificate → Bool
-head run c = len_fits run c.len && eqb (length c.bytes) 16
 
 pub loop-i-init : goal.loop-i-init
 loop-i-init c = let v = c.args.self in let r = c.args.run in let long : length v.bytes ≡ 16 = search (c.well_formed, length_mapped) in (omega arith, with_length c.len_in_range-fit.result (len_fits r v.len) v.bytes c.len_in_range-fit.ensures long ∙ every_none (byte_at v) _)

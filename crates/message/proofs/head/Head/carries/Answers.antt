@@ -1,6 +1,6 @@
 -- `Head::carries` meets its contract. Assumes nothing.
 use Rattle.message.specs.Head.{carried}
-use Rattle.message.proofs.Views.{not_carrying}
+use Rattle.message.proofs.Views.{none_carrying}
 use Rattle.message.proofs.head.Head.carries.Goals as goal
 
 pub returns-in-Reply : goal.returns-in-Reply
@@ -17,4 +17,6 @@ returns-in-Setpoints c = rw c.in-Setpoints.is c.carry-in-Setpoints.ensures
 
 pub returns-in_default : goal.returns-in_default
 unfolding carried
-returns-in_default c = let n = not_carrying c.args.self c.in_default.keys4 in rw (n.0, n.1, n.2) c.carry-in_default.ensures
+returns-in_default c =
+    let n = none_carrying c.args.self c.in_default.not-Reply c.in_default.not-Update c.in_default.not-Setpoints in
+    rw (n.0, n.1, n.2) c.carry-in_default.ensures

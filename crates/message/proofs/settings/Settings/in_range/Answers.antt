@@ -10,11 +10,9 @@ use Rattle.units.specs.Settings.{numbers_fit}
 use Rattle.units.proofs.Scan.{length_mapped}
 use Rattle.units.proofs.Every.{and_true, every_none, every_from}
 use Rattle.message.specs.declared.settings.Settings.{Settings}
-use Rattle.message.specs.Settings.{sixteen, certificate_at, settings_fit}
+use Rattle.message.specs.Settings.{certificate_at, settings_fit}
+use Rattle.message.proofs.settings.Settings.in_range.Invariants.{head}
 use Rattle.message.proofs.settings.Settings.in_range.Goals as goal
-
-abbrev head : Settings → Bool
-head s = numbers_fit s.numbers && sixteen s
 
 headed : (s : Settings) (a : Bool) → a ≡ numbers_fit s.numbers → length s.numbers.factors ≡ 16 → length s.numbers.weights ≡ 16 → length s.certificates ≡ 16
     → a ≡ head s
