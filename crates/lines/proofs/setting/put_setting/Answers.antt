@@ -1,0 +1,27 @@
+-- `put_setting` meets its contract. Assumes nothing.
+use Prim.Native.Nat.{◌<◌}
+use Rattle.lines.proofs.Runs.{sizes_put, filter_put, run_few, certificate_long, run_written}
+use Rattle.lines.proofs.setting.put_setting.Goals as goal
+
+few : (c : tie.After-turn-of) → c.turn_of-run.result < 16
+few c = let l = c in let z = l in run_few z.args.settings z.args.k z.requires l.if-k-eq1.false c.if-k-eq2.false _ c.turn_of-run.ensures
+
+pub returns-then-k-eq1 : goal.returns-then-k-eq1
+returns-then-k-eq1 c =
+    let k = c in let z = k in
+    sizes_put z.args.settings z.args.k z.requires _ _ z.args.buf.now _ k.if-k-eq1.true k.four-sizes.ensures.1 c.put_line.ensures
+
+pub returns-then-k-eq2 : goal.returns-then-k-eq2
+returns-then-k-eq2 c =
+    let k = c in let l = k in let z = l in
+    filter_put z.args.settings z.args.k z.requires _ _ z.args.buf.now _ l.if-k-eq1.false k.if-k-eq2.true k.four-filter.ensures.1 c.put_line-then-k-eq2.ensures
+
+pub put_run-requires : goal.put_run-requires
+put_run-requires c =
+    let k = c in let l = k in let z = l in
+    certificate_long z.args.settings z.args.k z.requires l.if-k-eq1.false k.if-k-eq2.false _ k.turn_of-run.ensures
+
+pub returns : goal.returns
+returns c =
+    let k = c in let l = k in let z = l in
+    run_written z.args.settings z.args.k z.requires l.if-k-eq1.false k.if-k-eq2.false _ k.turn_of-run.ensures _ _ z.args.buf.now c.put_run.ensures

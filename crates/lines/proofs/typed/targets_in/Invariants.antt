@@ -1,0 +1,15 @@
+-- `targets_in` meets its contract. Assumes nothing.
+use Prim.Native.Nat.{◌-◌, ◌≤◌}
+use mathlib.Core.Path.{◌≡◌}
+use Rattle.lines.proofs.Columns.{Filling}
+use lib.Ieee.{nan}
+use Rattle.floats.specs.Bits.{nought}
+use Rattle.lines.specs.Table.{runs_of}
+use Rattle.lines.specs.Values.{target_in}
+use Rattle.lines.proofs.typed.targets_in.Given as goal
+
+abbrev pub invariant-loop-i : goal.invariant-loop-i
+invariant-loop-i l = (l.i ≤ l.runs) × (l.runs ≡ runs_of l.n) × Filling (target_in l.n l.v) nan nought l.out l.i
+
+abbrev pub decreases-loop-i : goal.decreases-loop-i
+decreases-loop-i l = l.runs - l.i

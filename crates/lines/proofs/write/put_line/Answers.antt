@@ -1,0 +1,50 @@
+-- `put_line` meets its contract. Assumes nothing.
+use mathlib.Core.Path.{ap}
+use mathlib.Core.Bool.{not}
+use mathlib.Core.Path.{refl, ◌≡◌}
+use Prim.Native.Nat.{◌+◌, ◌≤◌}
+use lib.ListN.{length}
+use native.Mathlib.Omega.{arith}
+use Rattle.lines.proofs.Putting.{line_room, line_answer_lem, numbers_room, line_put, feed_room, room_not, room_yes}
+use Rattle.fields.specs.Text.{tabbed}
+use Rattle.lines.specs.Writing.{texts_to}
+use Rattle.lines.proofs.write.put_line.Goals as goal
+
+pub returns-then-not-is_enough_for : goal.returns-then-not-is_enough_for
+returns-then-not-is_enough_for c =
+    let s = c in let a = s.args in let h : a.n ≤ length a.v.now = omega (arith, s.requires) in let T = length (tabbed (texts_to a.kind a.v.now a.n)) in
+    line_room a.kind a.v.now a.n h (2 + T) T a.buf.now refl refl (room_not _ _ _ c.is_enough_for.ensures (ap not c.if-not-is_enough_for.true))
+
+pub bounds-buf-0 : goal.bounds-buf-0
+bounds-buf-0 c =
+    let a = c.args in
+    let y : 2 + length (tabbed (texts_to a.kind a.v.now a.n)) ≤ length a.buf.now = room_yes _ _ _ c.is_enough_for.ensures (ap not c.if-not-is_enough_for.false) in omega arith
+
+pub put_numbers-end-requires : goal.put_numbers-end-requires
+put_numbers-end-requires c =
+    let s = c in let a = s.args in let h : a.n ≤ length a.v.now = omega (arith, s.requires) in let T = length (tabbed (texts_to a.kind a.v.now a.n)) in
+    (s.requires.0, numbers_room a.kind a.v.now a.n h (2 + T) T a.buf.now refl refl (room_yes _ _ _ c.is_enough_for.ensures (ap not c.if-not-is_enough_for.false)) _)
+
+pub bounds-buf-end : goal.bounds-buf-end
+bounds-buf-end c =
+    let s = c in let a = s.args in let h : a.n ≤ length a.v.now = omega (arith, s.requires) in
+    let T = length (tabbed (texts_to a.kind a.v.now a.n)) in let p = c.put_numbers-end in
+    feed_room a.kind a.v.now a.n h (2 + T) T a.buf.now refl refl
+    (room_yes _ _ _ c.is_enough_for.ensures (ap not c.if-not-is_enough_for.false)) _ _ p.new.0 p.ensures.0 p.auto.0
+
+pub overflow_add-result : goal.overflow_add-result
+overflow_add-result c =
+    let a = c.args in let T = length (tabbed (texts_to a.kind a.v.now a.n)) in let p = c.put_numbers-end in
+    let y : 2 + T ≤ length a.buf.now = room_yes _ _ _ c.is_enough_for.ensures (ap not c.if-not-is_enough_for.false) in
+    let q : p.result ≡ 1 + T = p.ensures.0 in omega arith
+
+pub returns : goal.returns
+returns c =
+    let s = c in let a = s.args in let h : a.n ≤ length a.v.now = omega (arith, s.requires) in
+    let T = length (tabbed (texts_to a.kind a.v.now a.n)) in let p = c.put_numbers-end in let e : p.result + 1 ≡ 2 + T = omega (arith, p.ensures.0) in (
+      line_answer_lem a.kind a.v.now a.n h (p.result + 1) T a.buf.now e refl
+          (rw e (room_yes _ _ _ c.is_enough_for.ensures (ap not c.if-not-is_enough_for.false))),
+      line_put a.kind a.v.now a.n h (2 + T) T
+          a.buf.now refl refl (room_yes _ _ _ c.is_enough_for.ensures (ap not c.if-not-is_enough_for.false)) _ _ _
+          c.letter.ensures p.ensures.0 p.ensures.1,
+    )
