@@ -166,7 +166,8 @@ module _ (text : List ℕ) (at : ℕ) (c : Found) (ce : c ≡ certificate_at tex
 pub weight_kept : (st : Settling) (text : List ℕ) (turn : ℕ) (c : Certificate) (factor n : ℕ) (x : Settings) (r : Settled) → turn ≡ turn_of st → c ≡ certificate_of (get_or (later_fields text) 1 [])
     → x ≡ run_with st.settings turn c factor n → r ≡ kept st x
     → r ≡ kept st (run_with st.settings (turn_of st) (certificate_of (get_or (later_fields text) 1 [])) factor n)
-weight_kept st text turn c factor n x r te ce xe h = rw (← te, ← ce, ← xe) h
+weight_kept st text turn c factor n x r te ce xe h =
+    h ∙ ap (kept st) (xe ∙ ap (λ (t : ℕ). run_with st.settings t c factor n) te ∙ ap (λ (d : Certificate). run_with st.settings (turn_of st) d factor n) ce)
 
 -- A LINE'S TEXT, by the line that it is
 module _ (st : Settling) (text : List ℕ) where

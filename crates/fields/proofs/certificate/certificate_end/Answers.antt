@@ -22,14 +22,16 @@ pub loop-i-preserved : goal.loop-i-preserved
 loop-i-preserved c = seen_again _ _ _ c.loop-i.invariant c.loop-i-test.true c.if-b-eq-TAB.false _ c.is_visible.ensures (ap not c.if-not-is_visible.false)
 
 pub returns-then-n : goal.returns-then-n
-returns-then-n c = seen_right _ _ _ c.loop-i.invariant (elim c.loop-i-test.branch
-      [ else-loop-i-test w ↦ sym (ends_none _ _ w.loop-i-test.false)
-      | then-loop-i-test+then-b-eq-TAB w ↦ ends_tab _ _ w.loop-i-test.true w.if-b-eq-TAB.true ]) c.if-n.true
+returns-then-n c = seen_right _ _ _ c.loop-i.invariant (elim c.loop-i-test.branch [
+  | else-loop-i-test w ↦ sym (ends_none _ _ w.loop-i-test.false)
+  | then-loop-i-test+then-b-eq-TAB w ↦ ends_tab _ _ w.loop-i-test.true w.if-b-eq-TAB.true
+]) c.if-n.true
 
 pub returns : goal.returns
-returns c = seen_size _ _ _ c.loop-i.invariant (elim c.loop-i-test.branch
-      [ else-loop-i-test w ↦ sym (ends_none _ _ w.loop-i-test.false)
-      | then-loop-i-test+then-b-eq-TAB w ↦ ends_tab _ _ w.loop-i-test.true w.if-b-eq-TAB.true ]) c.if-n.false
+returns c = seen_size _ _ _ c.loop-i.invariant (elim c.loop-i-test.branch [
+  | else-loop-i-test w ↦ sym (ends_none _ _ w.loop-i-test.false)
+  | then-loop-i-test+then-b-eq-TAB w ↦ ends_tab _ _ w.loop-i-test.true w.if-b-eq-TAB.true
+]) c.if-n.false
 
 pub bounds-text-i : goal.bounds-text-i
 bounds-text-i c = omega arith

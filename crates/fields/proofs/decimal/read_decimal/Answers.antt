@@ -33,9 +33,10 @@ loop-i-preserved c = let l = c.loop-i in
     let w = c.if-d-gt9.false in (
       omega arith,
       long_again _ _ _ _ l.invariant.2 h n _ e _ l.invariant.1,
-      elim c.if-n.branch
-      [ then-n x ↦ rw x.n-is (read_grown _ _ _ _ l.invariant.2 h n _ e (omega arith) x.if-n.true)
-      | else-n x ↦ rw x.n-is (read_kept _ _ _ _ l.invariant.2 h n _ e (omega arith) x.if-n.false) ],
+      elim c.if-n.branch [
+        | then-n x ↦ rw x.n-is (read_grown _ _ _ _ l.invariant.2 h n _ e (omega arith) x.if-n.true)
+        | else-n x ↦ rw x.n-is (read_kept _ _ _ _ l.invariant.2 h n _ e (omega arith) x.if-n.false)
+      ],
     )
 
 pub returns : goal.returns

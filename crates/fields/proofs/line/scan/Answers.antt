@@ -13,9 +13,10 @@ returns-then-b-eq-LINE_FEED c = scan_feed _ _ _ c.loop-i.invariant (omega arith)
 
 pub loop-i-preserved : goal.loop-i-preserved
 loop-i-preserved c = let l = c.loop-i in let n = c.if-b-eq-LINE_FEED.false in
-    elim c.if-b-eq-TAB.branch
-    [ then-b-eq-TAB w ↦ rw w.tabs-is (scan_tab _ _ _ l.invariant c.loop-i-test.true n w.if-b-eq-TAB.true)
-    | else-b-eq-TAB w ↦ rw w.tabs-is (scan_other _ _ _ l.invariant c.loop-i-test.true n w.if-b-eq-TAB.false) ]
+    elim c.if-b-eq-TAB.branch [
+      | then-b-eq-TAB w ↦ rw w.tabs-is (scan_tab _ _ _ l.invariant c.loop-i-test.true n w.if-b-eq-TAB.true)
+      | else-b-eq-TAB w ↦ rw w.tabs-is (scan_other _ _ _ l.invariant c.loop-i-test.true n w.if-b-eq-TAB.false)
+    ]
 
 pub returns : goal.returns
 returns c = scan_end _ _ _ c.loop-i.invariant (omega arith)

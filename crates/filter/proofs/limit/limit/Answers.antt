@@ -12,11 +12,13 @@ returns-then-v-top c =
     inside a.top a.v c.if-v.true c.if-v-top.true
 
 pub returns-then-top-v : goal.returns-then-top-v
-returns-then-top-v c = above c.args.top c.args.v (elim c.else-v.branch
-      [ else-v-via-then-v+else-v-top w ↦ and_false_r (lt nought c.args.v) (le c.args.v c.args.top) w.if-v-top.false
-      | else-v-via-else-v w ↦ and_false_l (lt nought c.args.v) (le c.args.v c.args.top) w.if-v.false ]) c.if-top-v.true
+returns-then-top-v c = above c.args.top c.args.v (elim c.else-v.branch [
+  | else-v-via-then-v+else-v-top w ↦ and_false_r (lt nought c.args.v) (le c.args.v c.args.top) w.if-v-top.false
+  | else-v-via-else-v w ↦ and_false_l (lt nought c.args.v) (le c.args.v c.args.top) w.if-v.false
+]) c.if-top-v.true
 
 pub returns-else-top-v : goal.returns-else-top-v
-returns-else-top-v c = neither c.args.top c.args.v (elim c.else-v.branch
-      [ else-v-via-then-v+else-v-top w ↦ and_false_r (lt nought c.args.v) (le c.args.v c.args.top) w.if-v-top.false
-      | else-v-via-else-v w ↦ and_false_l (lt nought c.args.v) (le c.args.v c.args.top) w.if-v.false ]) c.if-top-v.false
+returns-else-top-v c = neither c.args.top c.args.v (elim c.else-v.branch [
+  | else-v-via-then-v+else-v-top w ↦ and_false_r (lt nought c.args.v) (le c.args.v c.args.top) w.if-v-top.false
+  | else-v-via-else-v w ↦ and_false_l (lt nought c.args.v) (le c.args.v c.args.top) w.if-v.false
+]) c.if-top-v.false

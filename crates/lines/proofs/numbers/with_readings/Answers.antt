@@ -3,8 +3,8 @@ use Rattle.lines.proofs.Adding.{readings_here, readings_not, readings_none, read
 use Prim.Native.Nat.{◌-◌}
 use mathlib.Core.Path.{refl}
 use native.Mathlib.Omega.{arith}
-use mathlib.Core.Logic.{⊎_elim}
 use Rattle.lines.proofs.numbers.with_readings.Goals as goal
+use Rattle.lines.proofs.numbers.with_readings.Goals.{then-has, else-has}
 
 pub returns-then-mask-eq0 : goal.returns-then-mask-eq0
 returns-then-mask-eq0 c = let a = c.args in readings_none a.mask a.so.n a.readings a.so.v c.if-mask-eq0.true c.requires.0 c.requires.1
@@ -12,8 +12,12 @@ returns-then-mask-eq0 c = let a = c.args in readings_none a.mask a.so.n a.readin
 pub loop-i-preserved : goal.loop-i-preserved
 loop-i-preserved c =
     let h = c in let l = h.loop-i in let a = c.args in
-    ⊎_elim (λ w. (omega arith, omega (arith, w.3), readings_here a.mask a.readings _ l.v l.at l.i l.invariant.2 _ h.has.ensures _ _ _ w.0.taken (omega arith) w.1.ensures w.2 w.3))
-    (λ w. (omega arith, omega (arith, w.2), readings_not a.mask a.readings _ l.v l.at l.i l.invariant.2 _ h.has.ensures _ _ w.0.left w.1 w.2)) c.if-has.branch
+    elim c.if-has.branch [
+      | then-has w ↦
+          (omega arith, omega (arith, w.at-is), readings_here a.mask a.readings _ l.v l.at l.i l.invariant.2 _ h.has.ensures _ _ _ w.if-has.true (omega arith) w.wide.ensures w.v-is w.at-is)
+      | else-has w ↦
+          (omega arith, omega (arith, w.at-is), readings_not a.mask a.readings _ l.v l.at l.i l.invariant.2 _ h.has.ensures _ _ w.if-has.false w.v-is w.at-is)
+    ]
 
 pub returns : goal.returns
 returns c = let l = c.loop-i in let a = c.args in readings_all a.mask a.readings _ l.v l.at l.i l.invariant.2 (omega arith) (omega (arith, l.invariant.0, c.loop-i-test.false))

@@ -3,30 +3,31 @@ use Prim.Native.Nat.{◌≤◌}
 use native.Mathlib.Omega.{arith}
 use Rattle.lines.proofs.Putting.{written_short}
 use Rattle.lines.proofs.setting.run_width.Goals as goal
+use Rattle.lines.proofs.setting.run_width.Goals.{After-width-last}
 
-short : (c : tie.After-width3) → (c.width-first.result ≤ 16) × (c.width-third.result ≤ 16) × (c.width-last.result ≤ 16)
+short : (c : After-width-last) → (c.width-first.result ≤ 16) × (c.width-third.result ≤ 16) × (c.width-last.result ≤ 16)
 short c = (rw c.width-first.ensures (written_short _ _), rw c.width-third.ensures (written_short _ _), rw c.width-last.ensures (written_short _ _))
 
 pub returns : goal.returns
-returns c = omega (arith, short c, c.width-first.ensures, c.width-third.ensures, c.width-last.ensures)
+returns c = omega (arith, short (goal.at.returns c).After-width-last, c.width-first.ensures, c.width-third.ensures, c.width-last.ensures)
 
 pub overflow_add-result : goal.overflow_add-result
-overflow_add-result c = omega (arith, short c)
+overflow_add-result c = omega (arith, short (goal.at.overflow_add-result c).After-width-last)
 
 pub overflow_add-result-2 : goal.overflow_add-result-2
-overflow_add-result-2 c = omega (arith, short c)
+overflow_add-result-2 c = omega (arith, short (goal.at.overflow_add-result-2 c).After-width-last)
 
 pub overflow_add-result-3 : goal.overflow_add-result-3
-overflow_add-result-3 c = omega (arith, short c)
+overflow_add-result-3 c = omega (arith, short (goal.at.overflow_add-result-3 c).After-width-last)
 
 pub overflow_add-result-4 : goal.overflow_add-result-4
-overflow_add-result-4 c = omega (arith, short c)
+overflow_add-result-4 c = omega (arith, short (goal.at.overflow_add-result-4 c).After-width-last)
 
 pub overflow_add-result-5 : goal.overflow_add-result-5
-overflow_add-result-5 c = omega (arith, short c)
+overflow_add-result-5 c = omega (arith, short (goal.at.overflow_add-result-5 c).After-width-last)
 
 pub overflow_add-result-6 : goal.overflow_add-result-6
-overflow_add-result-6 c = omega (arith, short c)
+overflow_add-result-6 c = omega (arith, short (goal.at.overflow_add-result-6 c).After-width-last)
 
 pub overflow_add-result-7 : goal.overflow_add-result-7
-overflow_add-result-7 c = omega (arith, short c)
+overflow_add-result-7 c = omega (arith, short (goal.at.overflow_add-result-7 c).After-width-last)

@@ -5,7 +5,7 @@ use native.Mathlib.Omega.{arith}
 use Rattle.units.specs.declared.refusal.Refusal.TheVariants.{Form as NoForm, Range as NoRange}
 use Rattle.fields.specs.declared.field.Field.TheVariants.{Form, Range}
 use borrow.Author.Rules.{rules}
-use Rattle.lines.proofs.Walking.{walk_stop, walk_more}
+use Rattle.lines.proofs.Walking.{walk_stop, walk_more, walk_end}
 use Rattle.lines.proofs.values.read_on.Goals as goal
 
 pub loop-k-init : goal.loop-k-init
@@ -27,3 +27,6 @@ pub loop-k-preserved : goal.loop-k-preserved
 loop-k-preserved c =
     let r = c in let h = r in
     walk_more h.loop-k.invariant r.loop-k-test.true r.label_in.ensures r.limit_of-limit.ensures r.read_at.ensures c.in-Value.is
+
+pub returns : goal.returns
+returns c = walk_end c.loop-k.invariant c.loop-k-test.false

@@ -1,7 +1,7 @@
 -- `read_values` meets its contract. Assumes nothing.
 use mathlib.Core.Path.{ap}
 use mathlib.Core.Bool.{not}
-use Rattle.lines.proofs.Stages.{enough_heads, values_rest, values_stop}
+use Rattle.lines.proofs.Stages.{enough_heads, values_few, values_rest, values_stop}
 use mathlib.Core.Path.{sym, ◌∙◌}
 use native.Mathlib.Omega.{arith}
 use borrow.Author.Tests.{not-false}
@@ -32,3 +32,6 @@ returns-in-Refused c =
     let s = c in
     values_stop s.requires.0 c.is_enough.ensures (ap not c.if-not-is_enough.false)
     c.count_of-heads.ensures.0 c.read_on-walk.ensures c.in-Refused.is
+
+pub returns-then-not-is_enough : goal.returns-then-not-is_enough
+returns-then-not-is_enough c = let p = c.requires in values_few p.0 c.is_enough.ensures (ap not c.if-not-is_enough.true) p.3

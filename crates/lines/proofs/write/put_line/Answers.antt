@@ -30,7 +30,7 @@ bounds-buf-end c =
     let s = c in let a = s.args in let h : a.n ≤ length a.v.now = omega (arith, s.requires) in
     let T = length (tabbed (texts_to a.kind a.v.now a.n)) in let p = c.put_numbers-end in
     feed_room a.kind a.v.now a.n h (2 + T) T a.buf.now refl refl
-    (room_yes _ _ _ c.is_enough_for.ensures (ap not c.if-not-is_enough_for.false)) _ _ p.new.0 p.ensures.0 p.auto.0
+    (room_yes _ _ _ c.is_enough_for.ensures (ap not c.if-not-is_enough_for.false)) _ _ p.new.buf p.ensures.0 p.auto.buf
 
 pub overflow_add-result : goal.overflow_add-result
 overflow_add-result c =

@@ -29,7 +29,7 @@ pub loop-k-preserved : goal.loop-k-preserved
 loop-k-preserved c =
     let h = c in let l = h.loop-k in let z = h in let a = z.args in let p = c.put_at-at in (
       omega arith,
-      p.auto.0 ∙ simp length-set l.invariant.1,
+      p.auto.buf ∙ simp length-set l.invariant.1,
       end_more a.kind a.v.now l.k _ _ c.quantity_at.ensures
           c.spelling-spelling.ensures a.n a.buf.now l.buf l.at c.loop-k-test.true z.requires.1 l.invariant.1 l.invariant.2 _
           p.ensures.0,

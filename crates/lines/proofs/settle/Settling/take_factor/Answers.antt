@@ -1,9 +1,11 @@
 -- `Settling::take_factor` meets its contract. Assumes nothing.
 use native.Mathlib.Omega.{arith}
+use Rattle.lines.specs.Settling.{settle_factor}
 use Rattle.lines.proofs.Settlings.{Judged, judged}
 use Rattle.lines.proofs.settle.Settling.take_factor.Goals as goal
+use Rattle.lines.proofs.settle.Settling.take_factor.Goals.{After-read_at}
 
-field : (k : tie.After-read-at) → let a = k.args in Judged a.self a.text.now 2 1 k.read_at.result
+field : (k : After-read_at) → let a = k.args in Judged a.self a.text.now 2 1 k.read_at.result
 field k =
     let z = k in
     judged z.args.self z.args.text.now _ 2 1 k.any_group.ensures k.turn_of-turn.ensures k.limit_of-limit.ensures k.read_at.ensures z.requires.7
@@ -12,4 +14,16 @@ field k =
 pub take_weight-requires : goal.take_weight-requires
 take_weight-requires c =
     let k = c in let p = k.requires in
-    (p.0, p.1, p.2, p.3, p.4, p.5, p.6, (field k).more c.in-Value.is)
+    (p.0, p.1, p.2, p.3, p.4, p.5, p.6, (field (goal.at.take_weight-requires c).After-read_at).more c.in-Value.is)
+
+pub returns-in-Value : goal.returns-in-Value
+unfolding settle_factor
+returns-in-Value c = (field (goal.at.returns-in-Value c).After-read_at).after _ c.in-Value.is c.take_weight.ensures
+
+pub returns-in-Form : goal.returns-in-Form
+unfolding settle_factor
+returns-in-Form c = (field (goal.at.returns-in-Form c).After-read_at).after _ c.in-Form.is c.stop.ensures
+
+pub returns-in-Range : goal.returns-in-Range
+unfolding settle_factor
+returns-in-Range c = (field (goal.at.returns-in-Range c).After-read_at).after _ c.in-Range.is c.stop-in-Range.ensures

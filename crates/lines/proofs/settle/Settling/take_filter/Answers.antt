@@ -5,6 +5,8 @@ use Rattle.lines.specs.declared.kind.Kind.TheVariants.{Filter}
 use Rattle.lines.specs.Settling.{kept, with_filter}
 use Rattle.lines.proofs.Settlings.{was_kind, kind_start, plain_got, filter_are}
 use Rattle.lines.proofs.Openings.{none_read, fields_are}
+use Rattle.units.proofs.Picked.{by_no}
+use Rattle.lines.proofs.Settlings.{was_not}
 use Rattle.lines.proofs.settle.Settling.take_filter.Goals as goal
 
 pub read_values-requires : goal.read_values-requires
@@ -23,3 +25,6 @@ returns-in-Refused c =
     let k = c in let l = k in let s = l.args.self in
     plain_got s Filter _ (was_kind l.is_kind.ensures (ap not l.if-not-is_kind.false)) k.any_group.ensures k.read_values.ensures (with_filter s.settings)
     c.in-Refused.is c.stop-in-Refused.ensures
+
+pub returns-then-not-is_kind : goal.returns-then-not-is_kind
+returns-then-not-is_kind c = by_no _ (was_not c.is_kind.ensures (ap not c.if-not-is_kind.true)) c.stop.ensures
