@@ -92,7 +92,7 @@ counts_byte k s b h =
 pub counts_on : {k : Count} {s : List ℕ} (t : List ℕ) → Counts k s → Counts (counted_on k t) (s ++ t)
 unfolding counted_on
 counts_on {s = s} [] h = rw (append-nil s) h
-counts_on {k = k} {s = s} (b ∷ t) h = rw (append_assoc s (b ∷ []) t) at (counts_on t (counts_byte k s b h))
+counts_on {k = k} {s = s} (b ∷ t) h = rw (append_assoc s (b ∷ []) t) at (counts_on {k = count_byte k b} {s = s ++ (b ∷ [])} t (counts_byte k s b h))
 
 -- a count is above 512 exactly when the lines are
 module _ {k : Count} {export : List ℕ} (h : Counts k export) where

@@ -89,6 +89,7 @@ module _ (s : Certificate) (d : ℕ) where
 
   covers : (b q : Row) (rs : List Row) → In q rs → same_name q.serial s ≡ true → q.day ≤ d → q.day ≤ (newest_from s d b rs).day
   unfolding newest_from
+  covers b q [] x m h = elim x [ ]
   covers b q (r ∷ rs) here m h = le_trans (better_covers b r m h) (grows (better s d b r) rs)
   covers b q (r ∷ rs) (there i) m h = covers (better s d b r) q rs i m h
 

@@ -42,9 +42,9 @@ module _ (m : ℕ) (rows : List Row) where
         record {
           few = omega arith;
           long = w.long;
-          of_factors = fill_more (factor_at m row) 0 16 (replicate 16 0) factors i factor w.of-factors h (a ∙ ap (λ (y : Row). factor_for (ltb i m) y.factor) x);
-          of_weights = fill_more (weight_at m) 0 16 (replicate 16 0) weights i weight w.of-weights h b;
-          of_certificates = fill_more (certificate_at m row) no_certificate 16 (replicate 16 no_one) certificates i certificate w.of-certificates h (c ∙ ap (λ (y : Row). certificate_for (ltb i m) y.certificate) x);
+          of_factors = fill_more (factor_at m row) 0 16 (replicate 16 0) factors i factor w.of_factors h (a ∙ ap (λ (y : Row). factor_for (ltb i m) y.factor) x);
+          of_weights = fill_more (weight_at m) 0 16 (replicate 16 0) weights i weight w.of_weights h b;
+          of_certificates = fill_more (certificate_at m row) no_certificate 16 (replicate 16 no_one) certificates i certificate w.of_certificates h (c ∙ ap (λ (y : Row). certificate_for (ltb i m) y.certificate) x);
         }
 
     -- all sixteen
@@ -54,7 +54,7 @@ module _ (m : ℕ) (rows : List Row) where
     made_all h =
         let done : (j : ℕ) → i ≤ j → j < 16 → ⊥ = λ j a b. absurd (omega arith) in
         rw (
-          fill_done (factor_at m row) 0 0 factors i w.of-factors (λ j a b. absurd (done j a b)),
-          fill_done (weight_at m) 0 0 weights i w.of-weights (λ j a b. absurd (done j a b)),
-          fill_done (certificate_at m row) no_certificate no_one certificates i w.of-certificates (λ j a b. absurd (done j a b)),
+          fill_done (factor_at m row) 0 0 factors i w.of_factors (λ j a b. absurd (done j a b)),
+          fill_done (weight_at m) 0 0 weights i w.of_weights (λ j a b. absurd (done j a b)),
+          fill_done (certificate_at m row) no_certificate no_one certificates i w.of_certificates (λ j a b. absurd (done j a b)),
         )

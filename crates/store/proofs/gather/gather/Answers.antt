@@ -1,0 +1,27 @@
+-- `gather` meets its contract: after each line the rows so far are those of the lines so far. Assumes nothing.
+use Prim.Native.Nat.{◌-◌, ◌≤◌, ◌<◌}
+use native.Mathlib.Omega.{arith}
+use lib.ListN.{length}
+use Rattle.store.proofs.Gathering.{gather_on, gather_bad, gather_more, gather_end}
+use Rattle.store.proofs.gather.gather.Goals as goal
+
+line : (k : tie.After-line-end invariant-loop decreases-loop) → let l = k.loop-at in let end = k.line_end-end.result in
+    (l.n < 512) × (l.at < end) × (end ≤ length k.args.export.now)
+line k =
+    let l = k.loop-at in
+    gather_on k.args.export.now l.rows l.n l.at k.line_end-end.result l.invariant k.loop-at-test.true k.line_end-end.ensures
+
+pub returns-in-Refused : goal.returns-in-Refused
+returns-in-Refused c =
+    let k = c in
+    let l = k.loop-at in
+    (gather_bad _ l.rows l.n l.at _ l.invariant k.loop-at-test.true k.line_end-end.ensures _ c.row_of-entry.ensures _ c.in-Refused.is, omega (arith, (line k).0))
+
+pub loop-at-preserved : goal.loop-at-preserved
+loop-at-preserved c =
+    let k = c in
+    let l = k.loop-at in
+    gather_more _ l.rows l.n l.at _ l.invariant k.loop-at-test.true k.line_end-end.ensures _ c.row_of-entry.ensures c.in_default.is
+
+pub returns : goal.returns
+returns c = let l = c.loop-at in (gather_end _ l.rows l.n l.at l.invariant c.loop-at-test.false, omega (arith, l.invariant.few))

@@ -1,0 +1,10 @@
+-- `weight_for` meets its contract. Assumes nothing.
+use mathlib.Core.Path.{refl}
+use Rattle.units.proofs.Picked.{by_yes, by_no}
+use Rattle.store.proofs.picked.weight_for.Goals as goal
+
+pub returns-then-run : goal.returns-then-run
+returns-then-run c = by_yes _ c.if-run.true refl
+
+pub returns-else-run : goal.returns-else-run
+returns-else-run c = by_no _ c.if-run.false refl
