@@ -4,8 +4,9 @@ use native.Mathlib.Omega.{arith}
 use lib.ListN.{length}
 use Rattle.store.proofs.Gathering.{gather_on, gather_bad, gather_more, gather_end}
 use Rattle.store.proofs.gather.gather.Goals as goal
+use Rattle.store.proofs.gather.gather.Goals.{After-line_end-end}
 
-line : (k : tie.After-line-end invariant-loop decreases-loop) → let l = k.loop-at in let end = k.line_end-end.result in
+line : (k : After-line_end-end) → let l = k.loop-at in let end = k.line_end-end.result in
     (l.n < 512) × (l.at < end) × (end ≤ length k.args.export.now)
 line k =
     let l = k.loop-at in
@@ -15,7 +16,7 @@ pub returns-in-Refused : goal.returns-in-Refused
 returns-in-Refused c =
     let k = c in
     let l = k.loop-at in
-    (gather_bad _ l.rows l.n l.at _ l.invariant k.loop-at-test.true k.line_end-end.ensures _ c.row_of-entry.ensures _ c.in-Refused.is, omega (arith, (line k).0))
+    (gather_bad _ l.rows l.n l.at _ l.invariant k.loop-at-test.true k.line_end-end.ensures _ c.row_of-entry.ensures _ c.in-Refused.is, omega (arith, (line (goal.at.returns-in-Refused c).After-line_end-end).0))
 
 pub loop-at-preserved : goal.loop-at-preserved
 loop-at-preserved c =

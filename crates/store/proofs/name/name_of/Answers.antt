@@ -1,15 +1,17 @@
 -- `name_of` meets its contract. Assumes nothing.
 use Prim.Native.Nat.{◌-◌}
-use mathlib.Core.Logic.{⊎_elim}
 use borrow.Author.Rules.{rules}
 use Rattle.store.proofs.Names.{copy_start, copy_byte, copy_none, copy_done}
 use Rattle.store.proofs.name.name_of.Goals as goal
+use Rattle.store.proofs.name.name_of.Goals.{then-i-len, else-i-len}
 
 pub loop-i-preserved : goal.loop-i-preserved
 loop-i-preserved c =
     let l = c.loop-i in
-    ⊎_elim (λ w. copy_byte _ _ l.bytes l.i l.invariant c.loop-i-test.true w.2) (λ w. copy_none _ _ l.bytes l.i l.invariant c.loop-i-test.true w.0.left w.1)
-    c.if-i-len.branch
+    elim c.if-i-len.branch [
+      | then-i-len w ↦ copy_byte _ _ l.bytes l.i l.invariant c.loop-i-test.true w.bytes-is
+      | else-i-len w ↦ copy_none _ _ l.bytes l.i l.invariant c.loop-i-test.true w.if-i-len.false w.bytes-is
+    ]
 
 pub loop-i-init : goal.loop-i-init
 loop-i-init c = copy_start _

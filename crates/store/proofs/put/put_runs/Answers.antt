@@ -4,6 +4,7 @@ use mathlib.Core.Path.{refl}
 use native.Mathlib.Omega.{arith}
 use Rattle.store.proofs.RunLines.{runs_top_lem}
 use Rattle.store.proofs.Putting.{puts_part, puts_more, puts_all}
+use Rattle.store.proofs.Putting.{puts_start}
 use Rattle.store.proofs.put.put_runs.Goals as goal
 
 pub put_one-at-requires : goal.put_one-at-requires
@@ -24,3 +25,6 @@ loop-i-preserved c =
 
 pub returns : goal.returns
 returns c = puts_all _ _ c.requires _ _ _ c.loop-i.invariant c.loop-i-test.false
+
+pub loop-i-init : goal.loop-i-init
+loop-i-init c = puts_start _ _ c.requires

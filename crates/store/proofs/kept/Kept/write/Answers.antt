@@ -3,6 +3,7 @@ use native.Mathlib.Omega.{arith}
 use mathlib.Core.Path.{refl, sym}
 use lib.Seq.{take_all}
 use Rattle.store.proofs.Answered.{kept_found}
+use Rattle.store.proofs.Answered.{kept_full}
 use Rattle.store.proofs.kept.Kept.write.Goals as goal
 
 pub returns-then-held-self : goal.returns-then-held-self
@@ -14,3 +15,6 @@ returns-then-held-self c =
 
 pub returns : goal.returns
 returns c = let r = c in kept_found _ _ _ _ _ _ _ _ _ r.lines.ensures r.if-lines-gt-ROWS.false refl c.write_runs-2.ensures
+
+pub returns-then-lines-gt-ROWS : goal.returns-then-lines-gt-ROWS
+returns-then-lines-gt-ROWS c = kept_full _ _ _ _ _ _ c.lines.ensures c.if-lines-gt-ROWS.true

@@ -1,0 +1,19 @@
+-- `read_on` meets its contract. Assumes nothing.
+use mathlib.Core.Path.{sym, ap, ◌∙◌}
+use lib.ListN.{take}
+use Rattle.fields.proofs.Holding.{line_alone, line_whole}
+use Rattle.lines.specs.Reading.{read_line}
+use Rattle.session.proofs.carry.read_on.Goals as goal
+
+pub returns-then-is_empty : goal.returns-then-is_empty
+returns-then-is_empty c =
+    let a = c.args in
+    c.read_part.ensures ∙ ap (read_line a.group) (sym (line_alone a.carry _ (sym c.is_empty.ensures ∙ c.if-is_empty.true)))
+
+pub returns : goal.returns
+returns c =
+    let a = c.args in
+    let l = c.len-len.ensures in
+    let b = c.bytes-bytes.ensures in
+    let e = sym c.is_empty.ensures ∙ c.if-is_empty.false in
+    c.read_part-2.ensures ∙ ap (read_line a.group) ((λ i. take (l i) (b i)) ∙ sym (line_whole a.carry _ _ e c.hold-whole.ensures))

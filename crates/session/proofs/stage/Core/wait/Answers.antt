@@ -1,0 +1,13 @@
+-- `Core::wait` meets its contract. Assumes nothing.
+use Rattle.session.proofs.Writes.{wrote_same}
+use Rattle.session.proofs.Turns.{hears_taken, hears_refused}
+use Rattle.session.specs.Turn.{waits_for}
+use Rattle.session.proofs.stage.Core.wait.Goals as goal
+
+pub returns-in-Refused : goal.returns-in-Refused
+returns-in-Refused c =
+    let a = c.args in
+    wrote_same a.out.now (hears_refused (λ x. waits_for a.self x.head) a.self a.line.message _ c.in-Refused.is) c.refuse.ensures
+
+pub returns-in-Taken : goal.returns-in-Taken
+returns-in-Taken c = let a = c.args in wrote_same a.out.now (hears_taken (λ x. waits_for a.self x.head) a.self a.line.message c.in-Taken.is) c.wait_for.ensures
