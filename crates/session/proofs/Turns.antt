@@ -5,15 +5,17 @@ use mathlib.Core.List.{List, [], ◌∷◌}
 use mathlib.Core.Option.{none}
 use denote.Enum.Declared.{tag_of}
 use types.Run.{OneOf}
+use Rattle.units.specs.declared.labels.RoundLabel.{RoundLabel}
 use Rattle.units.specs.declared.refusal.Refusal.{Refusal}
 use Rattle.units.specs.declared.refusal.Refusal.TheVariants.{Closed}
 use Rattle.units.specs.declared.refusal.Verdict.{Verdict}
 use Rattle.units.specs.declared.refusal.Verdict.TheVariants.{Taken, Refused}
 use Rattle.message.specs.declared.head.Head.{Head}
+use Rattle.message.specs.declared.head.Head.TheVariants.{Start}
 use Rattle.message.specs.declared.value.Message.{Message}
 use Rattle.message.specs.View.{as_start}
 use Rattle.message.specs.contracts.head.Head.{the_type}
-use Rattle.message.proofs.Views.{start_seen, unlisted}
+use Rattle.message.proofs.Views.{start_seen, unlisted, unlike}
 use Rattle.lines.specs.declared.read.Line.{Line}
 use Rattle.lines.specs.declared.settle.Standing.{Standing}
 use Rattle.lines.specs.declared.settle.Standing.TheVariants.{More, Whole, Refused as NoSettings}
@@ -50,6 +52,10 @@ unstarting = 0 ∷ 1 ∷ 2 ∷ 3 ∷ 4 ∷ 5 ∷ 6 ∷ 7 ∷ 8 ∷ 9 ∷ 10 ∷ 
 
 pub waits_unlisted : (c : Core) (head : Head) → OneOf unstarting (tag_of the_type head) → waits_for c head ≡ refusing c Closed
 waits_unlisted c head o = waits_other c head (unlisted unstarting 11 (λ v. refl) tt (start_seen head) o)
+
+-- the same, where that arm is told that the head is no B
+pub waits_unlike : (c : Core) (head : Head) → ((own : ℕ) (floor : RoundLabel) → head ≡ Start own floor → ⊥) → waits_for c head ≡ refusing c Closed
+waits_unlike c head n = waits_other c head (unlike (λ v. n v.0 v.1) (start_seen head))
 
 module _ (go : Message → Turn) (c : Core) (a : Message) {v : Verdict} where
   pub hears_taken : v ≡ Taken → hears go c a v ≡ go a

@@ -10,5 +10,4 @@ returns-in_default-head c = no_reading _ _ _
 
 pub returns : goal.returns
 returns c =
-    let g = c.head.given in
-    reading_added _ _ _ g.0.0 g.0.1.0 g.0.1.1.0 c.in-Taken.is g.1 c.reading_change.ensures
+    reading_added _ _ _ c.in-Reading.label c.in-Reading.run' c.in-Reading.raw c.in-Taken.is c.in-Reading.is c.reading_change.ensures

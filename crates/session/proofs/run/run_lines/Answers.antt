@@ -1,13 +1,13 @@
 -- `run_lines` meets its contract: after each line, what was said and what is left to do make the whole. Assumes nothing.
 use Prim.Native.Nat.{◌+◌, ◌-◌, ◌≤◌, ◌<◌}
 use native.Mathlib.Omega.{arith}
-use mathlib.Core.Logic.{⊎_elim}
 use mathlib.Core.Path.{refl, sym, ◌∙◌}
 use lib.ListN.{length}
 use Rattle.session.specs.Serving.{goes_on, line_run}
 use Rattle.session.proofs.Repeating.{filled_few, starts}
 use Rattle.session.proofs.Adding.{end_within, ends_line, ends_room, goes_added, goes_planned, kept_next, same_length as kept, sum_fits}
 use Rattle.session.proofs.run.run_lines.Goals as goal
+use Rattle.session.proofs.run.run_lines.Goals.{in-Reading, in_default, in-Nothing, in_default-size}
 
 pub loop-out-init : goal.loop-out-init
 loop-out-init c = starts goes_on (line_run _) _ _ _
@@ -31,8 +31,12 @@ overflow_add-filled c =
     let k = d.loop-out in
     let h = k.invariant in
     let p = c.plan_line-plan in
-    let n = ⊎_elim (λ v. kept_next _ _ _ p.result c.change-size.ensures v.1.given.1 ∙ sym v.2) (λ v. sym v.1.ensures ∙ sym v.2) c.in-Nothing.branch in
-    let g = goes_planned _ _ _ _ h d.read_first-first.ensures d.loop-out-test.true d.if-feed-input.false p.ensures n c.put_plan-filled.ensures refl in
+    let g = goes_planned _ _ _ _ h d.read_first-first.ensures d.loop-out-test.true d.if-feed-input.false p.ensures
+    (elim c.match-size.branch [
+      | in-Nothing v ↦ kept_next _ _ _ p.result c.change-size.ensures v.in-Nothing.is ∙ sym v.next-is
+      | in_default-size v ↦ sym v.apply-after.ensures ∙ sym v.next-is
+    ])
+    c.put_plan-filled.ensures refl in
     let z : k.filled + c.put_plan-filled.result ≤ length s.args.out.now = omega (arith, g.0, kept _ _ _ _ h) in
     let t : length s.args.out.now < 18446744073709551616 = omega (arith, s.well_formed) in sum_fits _ _ z t
 
@@ -57,12 +61,16 @@ loop-out-preserved c =
     let read = c.read_first-first.ensures in
     let room = c.loop-out-test.true in
     let whole = c.if-feed-input.false in
-    ⊎_elim
-    (λ w. rw (w.4, w.5, w.6) (goes_added _ _ _ _ h read room whole c.added_by-change.ensures w.1.given.1 w.3.ensures))
-    (λ w.
-    let n = ⊎_elim (λ v. kept_next _ _ _ w.1.result w.2.ensures v.1.given.1 ∙ sym v.2) (λ v. sym v.1.ensures ∙ sym v.2) w.3.came in
-    rw (w.8, w.9, w.10) (goes_planned _ _ _ _ h read room whole w.1.ensures n w.5.ensures refl).1)
-    c.in-Reading.branch
+    elim c.match-change.branch [
+      | in-Reading w ↦ rw (w.out-is, w.next-is, w.filled-is) (goes_added _ _ _ _ h read room whole c.added_by-change.ensures w.in-Reading.is w.add-after.ensures)
+      | in_default w ↦
+          rw (w.out-is, w.next-is, w.filled-is) (goes_planned _ _ _ _ h read room whole w.plan_line-plan.ensures
+          (elim w.match-size.branch [
+            | in-Nothing v ↦ kept_next _ _ _ w.plan_line-plan.result w.change-size.ensures v.in-Nothing.is ∙ sym v.next-is
+            | in_default-size v ↦ sym v.apply-after.ensures ∙ sym v.next-is
+          ])
+          w.put_plan-filled.ensures refl).1
+    ]
 
 pub returns-after-loop-out : goal.returns-after-loop-out
 returns-after-loop-out c = ends_room _ _ _ _ c.loop-out.invariant c.loop-out-test.false

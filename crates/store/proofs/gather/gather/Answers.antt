@@ -1,8 +1,9 @@
 -- `gather` meets its contract: after each line the rows so far are those of the lines so far. Assumes nothing.
 use Prim.Native.Nat.{◌-◌, ◌≤◌, ◌<◌}
 use native.Mathlib.Omega.{arith}
+use mathlib.Core.Path.{refl}
 use lib.ListN.{length}
-use Rattle.store.proofs.Gathering.{gather_on, gather_bad, gather_more, gather_end}
+use Rattle.store.proofs.Gathering.{gather_start, gather_on, gather_bad, gather_more, gather_end}
 use Rattle.store.proofs.gather.gather.Goals as goal
 use Rattle.store.proofs.gather.gather.Goals.{After-line_end-end}
 
@@ -26,3 +27,9 @@ loop-at-preserved c =
 
 pub returns : goal.returns
 returns c = let l = c.loop-at in (gather_end _ l.rows l.n l.at l.invariant c.loop-at-test.false, omega (arith, l.invariant.few))
+
+pub loop-at-init : goal.loop-at-init
+loop-at-init c = gather_start _ _ refl c.requires
+
+pub bounds-rows-n : goal.bounds-rows-n
+bounds-rows-n c = (line (goal.at.bounds-rows-n c).After-line_end-end).0

@@ -60,3 +60,11 @@ returns c =
     let y = f.result in
     let n = ap {B = Fed} (λ (k : Core). record { next = record { core = k; carry = y.next.carry }; took = y.took + w.took; wrote = y.wrote + w.wrote; verdict = y.verdict }) c.running.ensures in
     (n ∙ g.1, g.2)
+
+pub slice_bounds-run_lines-start : goal.slice_bounds-run_lines-start
+slice_bounds-run_lines-start c = let f = c.feed-fed in call_took _ _ _ f.result f.ensures.0
+
+pub slice_bounds-run_lines-start-2 : goal.slice_bounds-run_lines-start-2
+slice_bounds-run_lines-start-2 c =
+    let a = c.args in
+    let f = c.feed-fed in code_wrote a.self a.input.now a.out.now _ f.ensures.1 f.result f.ensures.0
