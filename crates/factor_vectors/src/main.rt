@@ -6,7 +6,7 @@ ghost use Rattle.std.specs.Prelude.{◌+◌, ◌≤◌, length};
 
 use fields::text::TAB;
 use fields::{Field, read_factor};
-use libc::STDOUT_FILENO;
+use std::io;
 use units::limits::{FACTOR_LOW, FACTOR_TOP};
 
 // What the fields are made of.
