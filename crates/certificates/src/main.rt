@@ -100,6 +100,7 @@ struct Heard {
 }
 
 // How many more blocks may be read: none after the end or a failure. An interrupted read is made again.
+#[tactic(auto, unfolding(units::specs::Pick::pick))]
 fn blocks_left(left: u64, n: usize, again: bool) -> u64
     requires { 1 ≤ left }
     ensures { (result + 1 ≤ left) × (result ≡ pick (ltb 0 n || again) (left - 1) 0) }
