@@ -76,6 +76,7 @@ fn serve(to: &mut impl Write, session: Session, block: &[u8], have: usize, out: 
 }
 
 // How many more blocks may be read: none after the end of the input or of the session, or after a failure.
+#[tactic(auto, unfolding(units::specs::Pick::pick))]
 fn blocks_left(left: u64, heard: Heard, written: bool, ended: bool) -> u64
     requires { 1 ≤ left }
     ensures { (result + 1 ≤ left) × (result ≡ pick (((ltb 0 heard.have && heard.ok) && written) && not ended) (left - 1) 0) }
