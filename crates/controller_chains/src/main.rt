@@ -10,6 +10,7 @@ mod wrong;
 use chain::{CHAIN, STEPS};
 use controller::Controller;
 use message::{Head, Message};
+use std::io;
 use units::limits::RUNS;
 use units::mask::has;
 use units::{Estimate, Group, Numbers, RoundLabel, StateLabel};
@@ -145,24 +146,24 @@ fn message(kind: u32, a: u32, b: u32, c: u32, d: u32) -> Message {
     plain
 }
 
-fn play(numbers: Numbers, c: Controller, a: Message) -> Controller {
+fn play(rt: &impl Print, numbers: Numbers, c: Controller, a: Message) -> io::Result<Controller> {
     let before = c.state;
     let r = c.step(numbers, a);
     let verdict = r.verdict;
     let next = r.next;
     let now = next.state;
-    print::number(verdict.number());
-    print::brief(next);
-    print::sent(numbers.group.m, r);
+    print::number(rt, verdict.number())?;
+    print::brief(rt, next)?;
+    print::sent(rt, numbers.group.m, r)?;
     if !now.same(before) {
         let estimates = next.estimates;
-        print::state(numbers.group.m, estimates);
+        print::state(rt, numbers.group.m, estimates)?;
     }
-    print::end();
-    next
+    print::end(rt)?;
+    Ok(next)
 }
 
-fn main() {
+fn main(rt: HostRuntime) -> io::Result<()> {
     let numbers = settings();
     let mut c = Controller::begin(numbers, 0, RoundLabel(0));
     let mut i = 0usize;
@@ -175,9 +176,9 @@ fn main() {
             CHAIN[k + 3],
             CHAIN[k + 4],
         );
-        c = play(numbers, c, a);
+        c = play(&rt, numbers, c, a)?;
         i += 1;
     }
-    wrong::states();
-    wrong::starts();
+    wrong::states(&rt)?;
+    wrong::starts(&rt)
 }

@@ -4,81 +4,86 @@ use fields::{Spelling, put_at};
 use floats::bits::bits_of;
 use message::{Head, Message};
 use plan::Phase;
+use std::io;
 use units::Estimate;
 use units::limits::{CONTROLLERS, RUNS};
 use units::mask::has;
 use vote::{Ballot, Digest, Seat};
 
 // The first bytes of a line.
-fn front(line: &[u8], end: usize) {
+fn front(rt: &impl Print, line: &[u8], end: usize) -> io::Result<()> {
     if end <= line.len() {
-        io::write_all(1, &line[..end]);
+        rt.write_all(&line[..end])?;
     }
+    Ok(())
 }
 
 // A tab and a number.
-fn field(spelling: Spelling, n: u64) {
+fn field(rt: &impl Print, spelling: Spelling, n: u64) -> io::Result<()> {
     let mut buf = [0u8; 24];
     let end = put_at(&mut buf, 0, spelling, n);
-    io::write_all(1, b"\t");
-    front(&buf, end);
+    rt.write_all(b"\t")?;
+    front(rt, &buf, end)
 }
 
-pub(crate) fn number(n: u32) {
-    field(Spelling::Decimal, n as u64);
+pub(crate) fn number(rt: &impl Print, n: u32) -> io::Result<()> {
+    field(rt, Spelling::Decimal, n as u64)
 }
 
-fn place(n: usize) {
-    number((n % 65536) as u32);
+fn place(rt: &impl Print, n: usize) -> io::Result<()> {
+    number(rt, (n % 65536) as u32)
 }
 
-fn float(v: f64) {
-    field(Spelling::Hex16, bits_of(v));
+fn float(rt: &impl Print, v: f64) -> io::Result<()> {
+    field(rt, Spelling::Hex16, bits_of(v))
 }
 
-fn digest(d: Digest) {
+fn digest(rt: &impl Print, d: Digest) -> io::Result<()> {
     let state = d.state;
-    number(state.0);
-    number(d.mask);
+    number(rt, state.0)?;
+    number(rt, d.mask)
 }
 
 // The readings of the mask's runs.
-fn readings(mask: u32, raws: [u32; 16]) {
+fn readings(rt: &impl Print, mask: u32, raws: [u32; 16]) -> io::Result<()> {
     let mut i = 0usize;
     while i < RUNS {
         if has(mask, i) {
-            number(raws[i]);
+            number(rt, raws[i])?;
         }
         i += 1;
     }
+    Ok(())
 }
 
 // x and P of the first m runs.
-pub(crate) fn state(m: usize, estimates: [Estimate; 16]) {
+pub(crate) fn state(rt: &impl Print, m: usize, estimates: [Estimate; 16]) -> io::Result<()> {
     let mut i = 0usize;
     while i < RUNS {
         if i < m {
             let e = estimates[i];
-            float(e.x);
-            float(e.variance);
+            float(rt, e.x)?;
+            float(rt, e.variance)?;
         }
         i += 1;
     }
+    Ok(())
 }
 
 // The targets of the first m runs.
-fn targets(m: usize, given: [f64; 16]) {
+fn targets(rt: &impl Print, m: usize, given: [f64; 16]) -> io::Result<()> {
     let mut i = 0usize;
     while i < RUNS {
         if i < m {
-            float(given[i]);
+            float(rt, given[i])?;
         }
         i += 1;
     }
+    Ok(())
 }
 
 // A message that is sent.
-pub(crate) fn message(m: usize, a: Message) {
+pub(crate) fn message(rt: &impl Print, m: usize, a: Message) -> io::Result<()> {
     let head = a.head;
     match head {
         Head::Query {
@@ -86,84 +91,83 @@ pub(crate) fn message(m: usize, a: Message) {
             label,
             mask,
         } => {
-            io::write_all(1, b"\tQ");
-            place(sender);
-            number(label.0);
-            number(mask);
+            rt.write_all(b"\tQ")?;
+            place(rt, sender)?;
+            number(rt, label.0)?;
+            number(rt, mask)
         }
         Head::Reply {
             sender,
             label,
             mask,
         } => {
-            io::write_all(1, b"\tR");
-            place(sender);
-            number(label.0);
-            number(mask);
+            rt.write_all(b"\tR")?;
+            place(rt, sender)?;
+            number(rt, label.0)?;
+            number(rt, mask)?;
             let raws = a.readings;
-            readings(mask, raws);
+            readings(rt, mask, raws)
         }
         Head::Advert {
             sender,
             state: label,
         } => {
-            io::write_all(1, b"\tA");
-            place(sender);
-            number(label.0);
+            rt.write_all(b"\tA")?;
+            place(rt, sender)?;
+            number(rt, label.0)
         }
         Head::Update {
             sender,
             state: label,
         } => {
-            io::write_all(1, b"\tU");
-            place(sender);
-            number(label.0);
+            rt.write_all(b"\tU")?;
+            place(rt, sender)?;
+            number(rt, label.0)?;
             let estimates = a.estimates;
-            state(m, estimates);
+            state(rt, m, estimates)
         }
         Head::Vote {
             sender,
             label,
             digest: d,
         } => {
-            io::write_all(1, b"\tD");
-            place(sender);
-            number(label.0);
-            digest(d);
+            rt.write_all(b"\tD")?;
+            place(rt, sender)?;
+            number(rt, label.0)?;
+            digest(rt, d)
         }
         Head::Setpoints {
             sender,
             label,
             digest: d,
         } => {
-            io::write_all(1, b"\tS");
-            place(sender);
-            number(label.0);
-            digest(d);
+            rt.write_all(b"\tS")?;
+            place(rt, sender)?;
+            number(rt, label.0)?;
+            digest(rt, d)?;
             let given = a.targets;
-            targets(m, given);
+            targets(rt, m, given)
         }
         Head::Floor { label } => {
-            io::write_all(1, b"\tF");
-            number(label.0);
+            rt.write_all(b"\tF")?;
+            number(rt, label.0)
         }
         // no other kind is sent
-        _ => {
-            io::write_all(1, b"\t?");
-        }
+        _ => { rt.write_all(b"\t?") }
     }
 }
 
 // The messages that go out, as many as there are.
-pub(crate) fn sent(m: usize, r: Told) {
+pub(crate) fn sent(rt: &impl Print, m: usize, r: Told) -> io::Result<()> {
     if 0 < r.sent {
         let first = r.first;
-        message(m, first);
+        message(rt, m, first)?;
     }
     if 1 < r.sent {
         let second = r.second;
-        message(m, second);
+        message(rt, m, second)?;
     }
+    Ok(())
 }
 
 fn phase_number(phase: Phase) -> u32 {
@@ -176,50 +180,51 @@ fn phase_number(phase: Phase) -> u32 {
 }
 
 // Phase, labels and runs held.
-pub(crate) fn brief(c: Controller) {
+pub(crate) fn brief(rt: &impl Print, c: Controller) -> io::Result<()> {
     let phase = c.phase;
     let label = c.label;
     let state = c.state;
-    number(phase_number(phase));
-    number(label.0);
-    number(state.0);
-    number(c.held);
+    number(rt, phase_number(phase))?;
+    number(rt, label.0)?;
+    number(rt, state.0)?;
+    number(rt, c.held)
 }
 
 // A vote, or 0 for none.
-fn ballot(b: Ballot) {
+fn ballot(rt: &impl Print, b: Ballot) -> io::Result<()> {
     match b {
-        Ballot::Missing => number(0),
+        Ballot::Missing => number(rt, 0),
         Ballot::Cast(d) => {
-            number(1);
-            digest(d);
+            number(rt, 1)?;
+            digest(rt, d)
         }
     }
 }
 
-fn votes(seats: [Seat; 7]) {
+fn votes(rt: &impl Print, seats: [Seat; 7]) -> io::Result<()> {
     let mut i = 0usize;
     while i < CONTROLLERS {
         let s = seats[i];
         let b = s.ballot;
-        ballot(b);
+        ballot(rt, b)?;
         i += 1;
     }
+    Ok(())
 }
 
-pub(crate) fn end() {
-    io::write_all(1, b"\n");
+pub(crate) fn end(rt: &impl Print) -> io::Result<()> {
+    rt.write_all(b"\n")
 }
 
 // A controller, whole, and the line's end.
-pub(crate) fn controller(c: Controller) {
-    place(c.own);
-    brief(c);
+pub(crate) fn controller(rt: &impl Print, c: Controller) -> io::Result<()> {
+    place(rt, c.own)?;
+    brief(rt, c)?;
     let raws = c.readings;
-    readings(65535, raws);
+    readings(rt, 65535, raws)?;
     let estimates = c.estimates;
-    state(RUNS, estimates);
+    state(rt, RUNS, estimates)?;
     let seats = c.votes;
-    votes(seats);
-    end();
+    votes(rt, seats)?;
+    end(rt)
 }

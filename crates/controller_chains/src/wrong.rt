@@ -4,6 +4,7 @@ use crate::{print, settings};
 use controller::{Controller, Started};
 use message::{Head, Message};
 use plan::Phase;
+use std::io;
 use units::{Estimate, Numbers, RoundLabel, StateLabel};
 use vote::{Ballot, Digest, Seat, put_vote};
 
@@ -229,7 +230,7 @@ fn other_settings(s: Numbers, what: u32, a: u32, b: u32) -> Numbers {
 }
 
 // What a step with A says of a row, what it sends, and the state after it.
-fn shown(row: usize) {
+fn shown(rt: &impl Print, row: usize) -> io::Result<()> {
     if row < ROWS {
         let k = row * 5;
         let numbers = other_settings(settings(), CHANGED[k + 1], CHANGED[k + 2], CHANGED[k + 3]);
@@ -247,18 +248,20 @@ fn shown(row: usize) {
         let r = c.step(numbers, a);
         let verdict = r.verdict;
         let next = r.next;
-        print::number(verdict.number());
-        print::sent(numbers.group.m, r);
-        print::controller(next);
+        print::number(rt, verdict.number())?;
+        print::sent(rt, numbers.group.m, r)?;
+        print::controller(rt, next)?;
     }
+    Ok(())
 }
 
-pub(crate) fn states() {
+pub(crate) fn states(rt: &impl Print) -> io::Result<()> {
     let mut i = 0usize;
     while i < ROWS {
-        shown(i);
+        shown(rt, i)?;
         i += 1;
     }
+    Ok(())
 }
 
 // Settings with one number changed, of a factor or weight run 0's.
@@ -276,27 +279,29 @@ fn start(numbers: Numbers, own: u32, floor: u32) -> Started {
 }
 
 // What a start says, and where it is taken, the controller.
-fn tried(row: usize) {
+fn tried(rt: &impl Print, row: usize) -> io::Result<()> {
     if row < TRIES {
         let k = row * 4;
         let numbers = start_settings(STARTED[k], STARTED[k + 1]);
         let r = start(numbers, STARTED[k + 2], STARTED[k + 3]);
         let verdict = r.verdict;
         let number = verdict.number();
-        print::number(number);
+        print::number(rt, number)?;
         if number == 0 {
             let c = r.controller;
-            print::controller(c);
+            print::controller(rt, c)?;
         } else {
-            print::end();
+            print::end(rt)?;
         }
     }
+    Ok(())
 }
 
-pub(crate) fn starts() {
+pub(crate) fn starts(rt: &impl Print) -> io::Result<()> {
     let mut i = 0usize;
     while i < TRIES {
-        tried(i);
+        tried(rt, i)?;
         i += 1;
     }
+    Ok(())
 }

@@ -6,7 +6,7 @@ ghost use Rattle.std.specs.Prelude.{◌+◌, ◌≤◌, length};
 
 use fields::text::TAB;
 use fields::{Field, read_factor};
-use libc::STDOUT_FILENO;
+use std::io;
 use units::limits::{FACTOR_LOW, FACTOR_TOP};
 
 // What the fields are made of.
@@ -15,32 +15,35 @@ const MADE_OF: [u8; 8] = [48, 49, 57, 46, 52, 65, 97, 9];
 // No bound but the spelling's own.
 const WIDE: u64 = 18446744073709551615;
 
-fn say(text: &[u8]) {
-    io::write_all(STDOUT_FILENO, text);
+fn say(rt: &impl Print, text: &[u8]) -> io::Result<()> {
+    rt.write_all(text)
 }
 
-fn tell(n: u64) {
-    io::print_decimal(STDOUT_FILENO, n);
+fn tell(rt: &impl Print, n: u64) -> io::Result<()> {
+    rt.print(n)
 }
 
 // A field's number and the place of the next, or its refusal.
-fn tell_field(field: Field) {
+fn tell_field(rt: &impl Print, field: Field) -> io::Result<()> {
     match field {
         Field::Value { n, next } => {
-            say(b"\t");
-            tell(n);
-            say(b" ");
-            tell(next as u64);
+            say(rt, b"\t")?;
+            tell(rt, n)?;
+            say(rt, b" ")?;
+            tell(rt, next as u64)
         }
-        Field::Form => say(b"\t5"),
-        Field::Range => say(b"\t6"),
+        Field::Form => say(rt, b"\t5"),
+        Field::Range => say(rt, b"\t6"),
     }
 }
 
 // The field at a place, in the widest range and in a station's.
-fn tell_at(text: &[u8], at: usize) {
-    tell_field(read_factor(text, at, 0, WIDE));
-    tell_field(read_factor(text, at, FACTOR_LOW as u64, FACTOR_TOP as u64));
+fn tell_at(rt: &impl Print, text: &[u8], at: usize) -> io::Result<()> {
+    tell_field(rt, read_factor(text, at, 0, WIDE))?;
+    tell_field(
+        rt,
+        read_factor(text, at, FACTOR_LOW as u64, FACTOR_TOP as u64),
+    )
 }
 
 fn in_form(text: &[u8], at: usize) -> bool {
@@ -52,14 +55,15 @@ fn in_form(text: &[u8], at: usize) -> bool {
 }
 
 // A field's bytes, with _ for a tab.
-fn say_field(field: &[u8]) {
+fn say_field(rt: &impl Print, field: &[u8]) -> io::Result<()> {
     let mut i: usize = 0;
     while i < field.len() {
         let b = field[i];
         let shown = if b == TAB { 95 } else { b };
-        say(&[shown]);
+        say(rt, &[shown])?;
         i += 1;
     }
+    Ok(())
 }
 
 // The field of k bytes with a number, behind another and before a third.
@@ -80,26 +84,33 @@ fn text_of(number: u64, k: usize) -> [u8; 11]
 }
 
 // Whether a field is in form at any of its four places; where it is, a line on it.
-fn show(alone: &[u8], followed: &[u8], behind: &[u8], between: &[u8]) -> bool {
+fn show(
+    rt: &impl Print,
+    alone: &[u8],
+    followed: &[u8],
+    behind: &[u8],
+    between: &[u8],
+) -> io::Result<bool> {
     let first = in_form(alone, 0) | in_form(followed, 0);
     let second = in_form(behind, 2) | in_form(between, 2);
     if !(first | second) {
-        return false;
+        return Ok(false);
     }
-    say_field(alone);
-    tell_at(alone, 0);
-    tell_at(followed, 0);
-    tell_at(behind, 2);
-    tell_at(between, 2);
-    say(b"\n");
-    true
+    say_field(rt, alone)?;
+    tell_at(rt, alone, 0)?;
+    tell_at(rt, followed, 0)?;
+    tell_at(rt, behind, 2)?;
+    tell_at(rt, between, 2)?;
+    say(rt, b"\n")?;
+    Ok(true)
 }
 
 // The same of a field of k bytes in its text.
-fn show_in(text: &[u8], k: usize) -> bool
+fn show_in(rt: &impl Print, text: &[u8], k: usize) -> io::Result<bool>
     requires { k + 4 ≤ length text.now }
 {
     show(
+        rt,
         &text[2..k + 2],
         &text[2..k + 4],
         &text[0..k + 2],
@@ -108,49 +119,49 @@ fn show_in(text: &[u8], k: usize) -> bool
 }
 
 // All fields of k bytes, and how many of them were shown.
-fn show_all(k: usize, count: u64)
+fn show_all(rt: &impl Print, k: usize, count: u64) -> io::Result<()>
     requires { k ≤ 7 }
 {
     let mut shown: u64 = 0;
     let mut number: u64 = 0;
     while number < count {
         let text = text_of(number, k);
-        if show_in(&text, k) {
+        if show_in(rt, &text, k)? {
             shown += 1;
         }
         number += 1;
     }
-    tell(k as u64);
-    say(b" bytes\t");
-    tell(count);
-    say(b" fields\t");
-    tell(shown);
-    say(b" shown\n");
+    tell(rt, k as u64)?;
+    say(rt, b" bytes\t")?;
+    tell(rt, count)?;
+    say(rt, b" fields\t")?;
+    tell(rt, shown)?;
+    say(rt, b" shown\n")
 }
 
 // A factor's text from each of its places on, and from places past its end.
-fn show_places(text: &[u8]) {
+fn show_places(rt: &impl Print, text: &[u8]) -> io::Result<()> {
     let mut at: usize = 0;
     while at < 9 {
-        tell(at as u64);
-        tell_at(text, at);
-        say(b"\n");
+        tell(rt, at as u64)?;
+        tell_at(rt, text, at)?;
+        say(rt, b"\n")?;
         at += 1;
     }
-    say(b"far");
-    tell_at(text, 18446744073709551610);
-    tell_at(text, 18446744073709551615);
-    say(b"\n");
+    say(rt, b"far")?;
+    tell_at(rt, text, 18446744073709551610)?;
+    tell_at(rt, text, 18446744073709551615)?;
+    say(rt, b"\n")
 }
 
-fn main() {
-    show_all(0, 1);
-    show_all(1, 8);
-    show_all(2, 64);
-    show_all(3, 512);
-    show_all(4, 4096);
-    show_all(5, 32768);
-    show_all(6, 262144);
-    show_all(7, 2097152);
-    show_places(b"1.0047");
+fn main(rt: HostRuntime) -> io::Result<()> {
+    show_all(&rt, 0, 1)?;
+    show_all(&rt, 1, 8)?;
+    show_all(&rt, 2, 64)?;
+    show_all(&rt, 3, 512)?;
+    show_all(&rt, 4, 4096)?;
+    show_all(&rt, 5, 32768)?;
+    show_all(&rt, 6, 262144)?;
+    show_all(&rt, 7, 2097152)?;
+    show_places(&rt, b"1.0047")
 }

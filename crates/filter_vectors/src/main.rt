@@ -8,6 +8,7 @@ ghost use Rattle.std.specs.Prelude.{◌<◌, ◌≤◌};
 use filter::Checked;
 use filter::checked::compute_checked;
 use floats::bits::{VARIANCE_BITS, X_BITS, bits_of, float_of};
+use std::io;
 use units::limits::{FACTOR_LOW, FACTOR_TOP, FIRST_TOP, NOISE_TOP, RAW_TOP, RUNS, WEIGHT_TOP};
 use units::{Estimate, Group, Numbers, RoundLabel, StateLabel};
 
@@ -224,7 +225,7 @@ fn digit(v: u64) -> u8 {
 }
 
 // The 16 digits of v, and a byte.
-fn put(v: u64, last: u8) {
+fn put(rt: &impl Print, v: u64, last: u8) -> io::Result<()> {
     let mut line = [0u8; 17];
     let mut left = v;
     let mut i = 0usize;
@@ -234,35 +235,35 @@ fn put(v: u64, last: u8) {
         i += 1;
     }
     line[16] = last;
-    io::write_all(1, &line);
+    rt.write_all(&line)
 }
 
 // A round's verdict by its number, and where it was taken each run's x, P and target.
-fn show(m: usize, c: Checked) {
+fn show(rt: &impl Print, m: usize, c: Checked) -> io::Result<()> {
     let verdict = c.verdict;
     let computed = c.computed;
     let state = computed.state;
     let targets = computed.targets;
     if verdict.number() != 0 {
-        io::write_all(1, b"6\n");
-        return;
+        return rt.write_all(b"6\n");
     }
-    io::write_all(1, b"0\n");
+    rt.write_all(b"0\n")?;
     let mut i = 0usize;
     while i < RUNS {
         if m <= i {
-            return;
+            return Ok(());
         }
         let e = state[i];
-        put(bits_of(e.x), b'\t');
-        put(bits_of(e.variance), b'\t');
-        put(bits_of(targets[i]), b'\n');
+        put(rt, bits_of(e.x), b'\t')?;
+        put(rt, bits_of(e.variance), b'\t')?;
+        put(rt, bits_of(targets[i]), b'\n')?;
         i += 1;
     }
+    Ok(())
 }
 
 // Sixteen rounds of a station.
-fn play(station: u32) {
+fn play(rt: &impl Print, station: u32) -> io::Result<()> {
     let numbers = settings(station);
     let m = numbers.group.m;
     let mut state = start(station, m, numbers.p);
@@ -280,9 +281,10 @@ fn play(station: u32) {
         );
         let computed = c.computed;
         state = computed.state;
-        show(m, c);
+        show(rt, m, c)?;
         i += 1;
     }
+    Ok(())
 }
 
 // The settings with the clause k broken, where it is one of theirs.
@@ -467,7 +469,7 @@ fn odd_mask(k: u32) -> u32 {
 }
 
 // A round in range, where k is 0, or with the clause k broken; that m is 17 is of a station of sixteen runs.
-fn broken(k: u32) {
+fn broken(rt: &impl Print, k: u32) -> io::Result<()> {
     let station = if k == 2 { 15u32 } else { 2u32 };
     let numbers = settings(station);
     let m = numbers.group.m;
@@ -480,11 +482,11 @@ fn broken(k: u32) {
         odd_mask(k),
         odd_readings(k),
     );
-    show(m, c);
+    show(rt, m, c)
 }
 
 // One run alone.
-fn alone(j: u32) {
+fn alone(rt: &impl Print, j: u32) -> io::Result<()> {
     let mut numbers = settings(0);
     numbers.weights[0] = 670 + j % 100;
     let mut state = start(0, 1, numbers.p);
@@ -495,38 +497,42 @@ fn alone(j: u32) {
     let mut readings = [0u32; 16];
     readings[0] = cut(draw(j, 91), RAW_TOP);
     show(
+        rt,
         1,
         compute_checked(RoundLabel(2), StateLabel(1), state, numbers, 1, readings),
-    );
+    )
 }
 
 // A round in range and 35 that are not, then one run alone.
-fn play_odd() {
+fn play_odd(rt: &impl Print) -> io::Result<()> {
     let mut k = 0u32;
     while k < 36 {
-        broken(k);
+        broken(rt, k)?;
         k += 1;
     }
+    Ok(())
 }
 
-fn play_alone() {
+fn play_alone(rt: &impl Print) -> io::Result<()> {
     let mut j = 0u32;
     while j < 200 {
-        alone(j);
+        alone(rt, j)?;
         j += 1;
     }
+    Ok(())
 }
 
-fn play_drawn() {
+fn play_drawn(rt: &impl Print) -> io::Result<()> {
     let mut station = 0u32;
     while station < 144 {
-        play(station);
+        play(rt, station)?;
         station += 1;
     }
+    Ok(())
 }
 
-fn main() {
-    play_drawn();
-    play_odd();
-    play_alone();
+fn main(rt: HostRuntime) -> io::Result<()> {
+    play_drawn(&rt)?;
+    play_odd(&rt)?;
+    play_alone(&rt)
 }

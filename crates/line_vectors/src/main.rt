@@ -4,174 +4,183 @@
 // or it says what is handed over as a value: a number of X (X), or a place of the settings read last that is changed (W).
 #![tactic(auto)]
 
-ghost use Rattle.std.specs.Prelude.{◌≤◌};
+ghost use Rattle.std.specs.Prelude.{◌≤◌, IfOk, length};
 
 use floats::bits::bits_of;
-use libc::{STDIN_FILENO, STDOUT_FILENO};
 use lines::read::read;
 use lines::setting::write_setting;
 use lines::settle::{Settled, Settling, Standing};
 use lines::write::{Written, write, write_plain};
 use message::{Certificate, Head, Message, Settings};
+use std::io;
+use std::io::Read;
 use units::limits::RUNS;
 use units::{Estimate, Group, Numbers, Refusal};
 use vote::Digest;
 
-fn say(text: &[u8]) {
-    io::write_all(STDOUT_FILENO, text);
+fn say(rt: &impl Print, text: &[u8]) -> io::Result<()> {
+    rt.write_all(text)
 }
 
 // The first n bytes of a text that has them.
-fn say_first(text: &[u8], n: usize) {
+fn say_first(rt: &impl Print, text: &[u8], n: usize) -> io::Result<()> {
     if n <= text.len() {
-        say(&text[..n]);
+        say(rt, &text[..n])?;
     }
+    Ok(())
 }
 
 // A number after a space.
-fn tell(n: u64) {
-    say(b" ");
-    io::print_decimal(STDOUT_FILENO, n);
+fn tell(rt: &impl Print, n: u64) -> io::Result<()> {
+    say(rt, b" ")?;
+    rt.print(n)
 }
 
 // The bits of a float after a space.
-fn tell_bits(v: f64) {
-    say(b" ");
-    io::print_hex(STDOUT_FILENO, bits_of(v), 1);
+fn tell_bits(rt: &impl Print, v: f64) -> io::Result<()> {
+    say(rt, b" ")?;
+    let bits = bits_of(v);
+    print!(rt; "{bits:x}")
 }
 
-fn tell_two(a: u64, b: u64) {
-    tell(a);
-    tell(b);
+fn tell_two(rt: &impl Print, a: u64, b: u64) -> io::Result<()> {
+    tell(rt, a)?;
+    tell(rt, b)
 }
 
-fn tell_digest(d: Digest) {
-    tell_two(d.mask as u64, d.state.0 as u64);
+fn tell_digest(rt: &impl Print, d: Digest) -> io::Result<()> {
+    tell_two(rt, d.mask as u64, d.state.0 as u64)
 }
 
-fn tell_refusal(why: Refusal) {
-    say(b"refused");
-    tell(why.number() as u64);
+fn tell_refusal(rt: &impl Print, why: Refusal) -> io::Result<()> {
+    say(rt, b"refused")?;
+    tell(rt, why.number() as u64)?;
     if let Refusal::Settings { line, reason } = why {
-        tell_two(line as u64, reason as u64);
+        tell_two(rt, line as u64, reason as u64)?;
     }
-    say(b"\n");
+    say(rt, b"\n")
 }
 
 // The kinds that name a sender.
-fn tell_sent(head: Head) {
+fn tell_sent(rt: &impl Print, head: Head) -> io::Result<()> {
     match head {
         Head::Query {
             sender,
             label,
             mask,
         } => {
-            say(b"query");
-            tell_two(sender as u64, label.0 as u64);
-            tell(mask as u64);
+            say(rt, b"query")?;
+            tell_two(rt, sender as u64, label.0 as u64)?;
+            tell(rt, mask as u64)
         }
         Head::Reply {
             sender,
             label,
             mask,
         } => {
-            say(b"reply");
-            tell_two(sender as u64, label.0 as u64);
-            tell(mask as u64);
+            say(rt, b"reply")?;
+            tell_two(rt, sender as u64, label.0 as u64)?;
+            tell(rt, mask as u64)
         }
         Head::Advert { sender, state } => {
-            say(b"advert");
-            tell_two(sender as u64, state.0 as u64);
+            say(rt, b"advert")?;
+            tell_two(rt, sender as u64, state.0 as u64)
         }
         Head::Update { sender, state } => {
-            say(b"update");
-            tell_two(sender as u64, state.0 as u64);
+            say(rt, b"update")?;
+            tell_two(rt, sender as u64, state.0 as u64)
         }
         Head::Vote {
             sender,
             label,
             digest,
         } => {
-            say(b"vote");
-            tell_two(sender as u64, label.0 as u64);
-            tell_digest(digest);
+            say(rt, b"vote")?;
+            tell_two(rt, sender as u64, label.0 as u64)?;
+            tell_digest(rt, digest)
         }
         Head::Setpoints {
             sender,
             label,
             digest,
         } => {
-            say(b"setpoints");
-            tell_two(sender as u64, label.0 as u64);
-            tell_digest(digest);
+            say(rt, b"setpoints")?;
+            tell_two(rt, sender as u64, label.0 as u64)?;
+            tell_digest(rt, digest)
         }
-        _ => {}
+        _ => Ok(())
     }
 }
 
 // The other kinds.
-fn tell_head(head: Head) {
+fn tell_head(rt: &impl Print, head: Head) -> io::Result<()> {
     match head {
         Head::Reading { label, run, raw } => {
-            say(b"reading");
-            tell_two(label.0 as u64, run as u64);
-            tell(raw as u64);
+            say(rt, b"reading")?;
+            tell_two(rt, label.0 as u64, run as u64)?;
+            tell(rt, raw as u64)?;
         }
         Head::Due { label } => {
-            say(b"due");
-            tell(label.0 as u64);
+            say(rt, b"due")?;
+            tell(rt, label.0 as u64)?;
         }
         Head::CollectingEnds { label } => {
-            say(b"collecting ends");
-            tell(label.0 as u64);
+            say(rt, b"collecting ends")?;
+            tell(rt, label.0 as u64)?;
         }
         Head::VotingEnds { label } => {
-            say(b"voting ends");
-            tell(label.0 as u64);
+            say(rt, b"voting ends")?;
+            tell(rt, label.0 as u64)?;
         }
         Head::Floor { label } => {
-            say(b"floor");
-            tell(label.0 as u64);
+            say(rt, b"floor")?;
+            tell(rt, label.0 as u64)?;
         }
         Head::Start { own, floor } => {
-            say(b"start");
-            tell_two(own as u64, floor.0 as u64);
+            say(rt, b"start")?;
+            tell_two(rt, own as u64, floor.0 as u64)?;
         }
         Head::Refused { number } => {
-            say(b"refused");
-            tell(number as u64);
+            say(rt, b"refused")?;
+            tell(rt, number as u64)?;
         }
-        _ => tell_sent(head),
+        _ => tell_sent(rt, head)?,
     }
-    say(b"\n");
+    say(rt, b"\n")
 }
 
 // What stands at each of sixteen runs, used or blank.
-fn tell_runs(readings: [u32; 16], estimates: [Estimate; 16], targets: [f64; 16]) {
+fn tell_runs(
+    rt: &impl Print,
+    readings: [u32; 16],
+    estimates: [Estimate; 16],
+    targets: [f64; 16],
+) -> io::Result<()> {
     let mut i = 0usize;
     while i < RUNS {
         let e = estimates[i];
-        tell(readings[i] as u64);
-        tell_bits(e.x);
-        tell_bits(e.variance);
-        tell_bits(targets[i]);
+        tell(rt, readings[i] as u64)?;
+        tell_bits(rt, e.x)?;
+        tell_bits(rt, e.variance)?;
+        tell_bits(rt, targets[i])?;
         i += 1;
     }
-    say(b"\n");
+    say(rt, b"\n")
 }
 
 // The line, with the byte past it; then what a buffer that is one byte shorter leads to.
-fn tell_written(message: Message, group: Group) {
+fn tell_written(rt: &impl Print, message: Message, group: Group) -> io::Result<()> {
     let mut out = [b'#'; 602];
     match write(message, group, &mut out) {
         Written::Done { len } => {
             if len < 602 {
-                say_first(&out, len + 1);
-                say(b"\n");
-                tell_short(message, group, &mut out, one_less(len));
+                say_first(rt, &out, len + 1)?;
+                say(rt, b"\n")?;
+                tell_short(rt, message, group, &mut out, one_less(len))?;
             }
+            Ok(())
         }
-        Written::Refused(why) => tell_refusal(why),
+        Written::Refused(why) => tell_refusal(rt, why),
     }
 }
 
@@ -179,55 +188,68 @@ fn one_less(n: usize) -> usize {
     if n == 0 { 0 } else { n - 1 }
 }
 
-fn tell_short(message: Message, group: Group, out: &mut [u8], room: usize) {
+fn tell_short(
+    rt: &impl Print,
+    message: Message,
+    group: Group,
+    out: &mut [u8],
+    room: usize,
+) -> io::Result<()> {
     if out.len() < room {
-        return;
+        return Ok(());
     }
-    tell_room(write(message, group, &mut out[..room]));
+    tell_room(rt, write(message, group, &mut out[..room]))
 }
 
-fn tell_room(written: Written) {
+fn tell_room(rt: &impl Print, written: Written) -> io::Result<()> {
     match written {
         Written::Done { len } => {
-            say(b"written");
-            tell(len as u64);
-            say(b"\n");
+            say(rt, b"written")?;
+            tell(rt, len as u64)?;
+            say(rt, b"\n")
         }
-        Written::Refused(why) => tell_refusal(why),
+        Written::Refused(why) => tell_refusal(rt, why),
     }
 }
 
 // The same from the head alone.
-fn tell_plain(head: Head, group: Group) {
+fn tell_plain(rt: &impl Print, head: Head, group: Group) -> io::Result<()> {
     let mut out = [b'#'; 602];
     match write_plain(head, group, &mut out) {
         Written::Done { len } => {
             if len < 602 {
-                say_first(&out, len + 1);
-                say(b"\n");
-                tell_short_plain(head, group, &mut out, one_less(len));
+                say_first(rt, &out, len + 1)?;
+                say(rt, b"\n")?;
+                tell_short_plain(rt, head, group, &mut out, one_less(len))?;
             }
+            Ok(())
         }
-        Written::Refused(why) => tell_refusal(why),
+        Written::Refused(why) => tell_refusal(rt, why),
     }
 }
 
-fn tell_short_plain(head: Head, group: Group, out: &mut [u8], room: usize) {
+fn tell_short_plain(
+    rt: &impl Print,
+    head: Head,
+    group: Group,
+    out: &mut [u8],
+    room: usize,
+) -> io::Result<()> {
     if out.len() < room {
-        return;
+        return Ok(());
     }
-    tell_room(write_plain(head, group, &mut out[..room]));
+    tell_room(rt, write_plain(head, group, &mut out[..room]))
 }
 
 // A message X of a number.
-fn tell_x(number: u32, m: usize) {
+fn tell_x(rt: &impl Print, number: u32, m: usize) -> io::Result<()> {
     let head = Head::Refused { number };
     let group = Group { g: 3, m };
-    tell_written(Message::plain(head), group);
-    tell_plain(head, group);
+    tell_written(rt, Message::plain(head), group)?;
+    tell_plain(rt, head, group)
 }
 
-fn tell_line(line: &[u8], group: Group) {
+fn tell_line(rt: &impl Print, line: &[u8], group: Group) -> io::Result<()> {
     let found = read(line, group);
     let verdict = found.verdict;
     let message = found.message;
@@ -235,91 +257,98 @@ fn tell_line(line: &[u8], group: Group) {
     let readings = message.readings;
     let estimates = message.estimates;
     let targets = message.targets;
-    tell_head(head);
+    tell_head(rt, head)?;
     if verdict.number() == 0 {
-        tell_runs(readings, estimates, targets);
+        tell_runs(rt, readings, estimates, targets)?;
     }
-    tell_written(message, group);
+    tell_written(rt, message, group)
 }
 
-fn tell_certificate(c: Certificate) {
+fn tell_certificate(rt: &impl Print, c: Certificate) -> io::Result<()> {
     let len = c.len;
     let bytes = c.bytes;
-    say(b" ");
-    say_first(&bytes, len);
+    say(rt, b" ")?;
+    say_first(rt, &bytes, len)
 }
 
-fn tell_run(certificate: Certificate, factor: u32, weight: u32) {
-    tell_certificate(certificate);
-    tell_two(factor as u64, weight as u64);
+fn tell_run(rt: &impl Print, certificate: Certificate, factor: u32, weight: u32) -> io::Result<()> {
+    tell_certificate(rt, certificate)?;
+    tell_two(rt, factor as u64, weight as u64)
 }
 
-fn tell_numbers(settings: Settings) {
+fn tell_numbers(rt: &impl Print, settings: Settings) -> io::Result<()> {
     let numbers = settings.numbers;
     let group = numbers.group;
-    say(b"settings");
-    tell_two(group.g as u64, group.m as u64);
-    tell_two(numbers.q as u64, numbers.r as u64);
-    tell(numbers.p as u64);
+    say(rt, b"settings")?;
+    tell_two(rt, group.g as u64, group.m as u64)?;
+    tell_two(rt, numbers.q as u64, numbers.r as u64)?;
+    tell(rt, numbers.p as u64)
 }
 
-fn tell_settings(settings: Settings) {
+fn tell_settings(rt: &impl Print, settings: Settings) -> io::Result<()> {
     let numbers = settings.numbers;
     let factors = numbers.factors;
     let weights = numbers.weights;
     let certificates = settings.certificates;
-    tell_numbers(settings);
+    tell_numbers(rt, settings)?;
     let mut i = 0usize;
     while i < RUNS {
-        tell_run(certificates[i], factors[i], weights[i]);
+        tell_run(rt, certificates[i], factors[i], weights[i])?;
         i += 1;
     }
-    say(b"\n");
+    say(rt, b"\n")
 }
 
 // Line k of the settings, with the byte past it, as it is written; then what a buffer that is one byte shorter leads to.
-fn tell_setting(settings: Settings, k: u32) {
+fn tell_setting(rt: &impl Print, settings: Settings, k: u32) -> io::Result<()> {
     let mut out = [b'#'; 602];
     match write_setting(settings, k, &mut out) {
         Written::Done { len } => {
             if len < 602 {
-                say_first(&out, len + 1);
-                say(b"\n");
-                tell_short_setting(settings, k, &mut out, one_less(len));
+                say_first(rt, &out, len + 1)?;
+                say(rt, b"\n")?;
+                tell_short_setting(rt, settings, k, &mut out, one_less(len))?;
             }
+            Ok(())
         }
-        Written::Refused(why) => tell_refusal(why),
+        Written::Refused(why) => tell_refusal(rt, why),
     }
 }
 
-fn tell_short_setting(settings: Settings, k: u32, out: &mut [u8], room: usize) {
+fn tell_short_setting(
+    rt: &impl Print,
+    settings: Settings,
+    k: u32,
+    out: &mut [u8],
+    room: usize,
+) -> io::Result<()> {
     if out.len() < room {
-        return;
+        return Ok(());
     }
-    tell_room(write_setting(settings, k, &mut out[..room]));
+    tell_room(rt, write_setting(settings, k, &mut out[..room]))
 }
 
 // All lines that settings can have, one at either end that none has, and the last number that can be asked for.
-fn tell_lines(settings: Settings) {
+fn tell_lines(rt: &impl Print, settings: Settings) -> io::Result<()> {
     let mut k = 0u32;
     while k < 20 {
-        tell_setting(settings, k);
+        tell_setting(rt, settings, k)?;
         k += 1;
     }
-    tell_setting(settings, 4294967295);
+    tell_setting(rt, settings, 4294967295)
 }
 
-fn tell_settled(settled: Settled) {
+fn tell_settled(rt: &impl Print, settled: Settled) -> io::Result<()> {
     let answer = settled.answer;
     match answer {
-        Standing::More => say(b"more\n"),
+        Standing::More => say(rt, b"more\n"),
         Standing::Whole => {
             let next = settled.next;
             let settings = next.settings();
-            tell_settings(settings);
-            tell_lines(settings);
+            tell_settings(rt, settings)?;
+            tell_lines(rt, settings)
         }
-        Standing::Refused(why) => tell_refusal(why),
+        Standing::Refused(why) => tell_refusal(rt, why),
     }
 }
 
@@ -414,66 +443,97 @@ fn changed(settings: Settings, place: u8, i: usize, j: usize, n: u32) -> Setting
 }
 
 // A line that names a place by its letter, a run and a byte in two digits each, and the number to stand there.
-fn tell_changed(settings: Settings, line: &[u8]) {
+fn tell_changed(rt: &impl Print, settings: Settings, line: &[u8]) -> io::Result<()> {
     if line.len() < 6 {
-        return;
+        return Ok(());
     }
     let i = number(b'0', line[1], line[2]);
     let j = number(b'0', line[3], line[4]);
-    tell_lines(changed(settings, line[0], i, j, number_from(line, 5)));
+    tell_lines(rt, changed(settings, line[0], i, j, number_from(line, 5)))
 }
 
 // What a line of the list is for; the settings after it.
-fn take(what: u8, m: usize, line: &[u8], settling: Settling) -> Settling {
+fn take(
+    rt: &impl Print,
+    what: u8,
+    m: usize,
+    line: &[u8],
+    settling: Settling,
+) -> io::Result<Settling> {
     match what {
-        b'Z' => Settling::start(),
+        b'Z' => Ok(Settling::start()),
         b'S' => {
             let settled = settling.take(line);
             let next = settled.next;
-            tell_settled(settled);
-            next
+            tell_settled(rt, settled)?;
+            Ok(next)
         }
         b'T' => {
-            tell_refusal(settling.missing());
-            settling
+            tell_refusal(rt, settling.missing())?;
+            Ok(settling)
         }
         b'X' => {
-            tell_x(number_from(line, 0), m);
-            settling
+            tell_x(rt, number_from(line, 0), m)?;
+            Ok(settling)
         }
         b'W' => {
-            tell_changed(settling.settings(), line);
-            settling
+            tell_changed(rt, settling.settings(), line)?;
+            Ok(settling)
         }
         _ => {
             let g = digit(what);
-            tell_line(line, Group { g, m });
-            settling
+            tell_line(rt, line, Group { g, m })?;
+            Ok(settling)
         }
     }
 }
 
-// The next line of the list, of a length.
-fn take_next(what: u8, m: usize, len: usize, space: &mut [u8], settling: Settling) -> Settling {
-    if space.len() < len {
-        return settling;
+// Reads until the bytes are full or the input ends, and says how many came.
+fn read_full(input: &mut impl Read, bytes: &mut [u8]) -> io::Result<usize>
+    ensures { IfOk result (λ n. n ≤ length bytes.new) }
+{
+    let mut done = 0;
+    while done < bytes.len() {
+        let n = input.read(&mut bytes[done..])?;
+        if n == 0 {
+            break;
+        }
+        done += n;
     }
-    io::read_full(STDIN_FILENO, &mut space[..len]);
-    take(what, m, &space[..len], settling)
+    Ok(done)
 }
 
-fn main() {
+// The next line of the list, of a length.
+fn take_next(
+    rt: &impl Print,
+    input: &mut impl Read,
+    what: u8,
+    m: usize,
+    len: usize,
+    space: &mut [u8],
+    settling: Settling,
+) -> io::Result<Settling> {
+    if space.len() < len {
+        return Ok(settling);
+    }
+    read_full(input, &mut space[..len])?;
+    take(rt, what, m, &space[..len], settling)
+}
+
+fn main(rt: HostRuntime) -> io::Result<()> {
+    let mut input = rt.stdin();
     let mut head = [0u8; 7];
     let mut space = [0u8; 1000];
     let mut settling = Settling::start();
     let mut entry = 0u32;
     while entry < 1000000 {
-        if io::read_full(STDIN_FILENO, &mut head) < 7 {
-            return;
+        if read_full(&mut input, &mut head)? < 7 {
+            return Ok(());
         }
         let m = number(b'0', head[1], head[2]);
         let len = number(head[3], head[4], head[5]);
-        settling = take_next(head[0], m, len, &mut space, settling);
+        settling = take_next(&rt, &mut input, head[0], m, len, &mut space, settling)?;
         entry += 1;
     }
+    Ok(())
 }

@@ -12,9 +12,9 @@ ghost use Rattle.station.specs.Serving.{Hand, Handover};
 
 use call::budget;
 use hear::{Heard, hear};
-use libc::{STDERR_FILENO, STDOUT_FILENO};
 use say::say;
 use session::Session;
+use std::io::Write;
 
 // A session that was handed something: how much it took, how much it answered, and whether that was written.
 #[derive(Clone, Copy)]
@@ -26,7 +26,7 @@ struct Handed {
 }
 
 // Hands the session what is left of a block, and writes what it answers.
-fn hand(session: Session, piece: &[u8], out: &mut [u8]) -> Handed
+fn hand(to: &mut impl Write, session: Session, piece: &[u8], out: &mut [u8]) -> Handed
     requires { (1 ≤ length piece.now) × (2 * line_top ≤ length out.old) }
     ensures { Hand session piece.now result.took (take result.wrote out.new) result.next }
 {
@@ -34,7 +34,7 @@ fn hand(session: Session, piece: &[u8], out: &mut [u8]) -> Handed
     let next = fed.next;
     let took = fed.took;
     let wrote = fed.wrote;
-    let written = say(STDOUT_FILENO, out, wrote);
+    let written = say(to, out, wrote);
     Handed {
         next,
         took,
@@ -58,7 +58,7 @@ struct Served {
 }
 
 // Hands the first bytes of a block to the session, piece by piece.
-fn serve(session: Session, block: &[u8], have: usize, out: &mut [u8]) -> Served
+fn serve(to: &mut impl Write, session: Session, block: &[u8], have: usize, out: &mut [u8]) -> Served
     requires { (have ≤ length block.now) × (2 * line_top ≤ length out.old) }
     ensures { Handover session (take have block.now) result.written result.next }
 {
@@ -66,7 +66,7 @@ fn serve(session: Session, block: &[u8], have: usize, out: &mut [u8]) -> Served
     let mut at: usize = 0;
     let mut written = true;
     while goes_on(at, have, written) {
-        let handed = hand(next, &block[at..have], out);
+        let handed = hand(to, next, &block[at..have], out);
         let after = handed.next;
         next = after;
         at += handed.took;
@@ -76,6 +76,7 @@ fn serve(session: Session, block: &[u8], have: usize, out: &mut [u8]) -> Served
 }
 
 // How many more blocks may be read: none after the end of the input or of the session, or after a failure.
+#[tactic(auto, unfolding(units::specs::Pick::pick))]
 fn blocks_left(left: u64, heard: Heard, written: bool, ended: bool) -> u64
     requires { 1 ≤ left }
     ensures { (result + 1 ≤ left) × (result ≡ pick (((ltb 0 heard.have && heard.ok) && written) && not ended) (left - 1) 0) }
@@ -86,52 +87,61 @@ fn blocks_left(left: u64, heard: Heard, written: bool, ended: bool) -> u64
     0
 }
 
-fn output_failed() {
-    io::write_all(STDERR_FILENO, b"station: output failed\n");
+fn output_failed(errors: &mut impl Write) {
+    let _ = errors.write_all(b"station: output failed\n");
 }
 
 // Writes what the end of the input leads to.
-fn close(session: Session, out: &mut [u8])
+fn close(to: &mut impl Write, errors: &mut impl Write, session: Session, out: &mut [u8])
     requires { 2 * line_top ≤ length out.old }
 {
     let fed = session.finish(out);
-    if !say(STDOUT_FILENO, out, fed.wrote) {
-        output_failed();
+    if !say(to, out, fed.wrote) {
+        output_failed(errors);
     }
 }
 
 // The end: of the input, which is answered, or by a failure, which standard error is told.
-fn part(session: Session, read: bool, written: bool, out: &mut [u8])
+fn part(
+    to: &mut impl Write,
+    errors: &mut impl Write,
+    session: Session,
+    read: bool,
+    written: bool,
+    out: &mut [u8],
+)
     requires { 2 * line_top ≤ length out.old }
 {
     if !written {
-        output_failed();
+        output_failed(errors);
         return;
     }
     if !read {
-        io::write_all(STDERR_FILENO, b"station: input failed\n");
+        let _ = errors.write_all(b"station: input failed\n");
         return;
     }
-    close(session, out);
+    close(to, errors, session, out);
 }
 
-fn main() {
+fn main(rt: HostRuntime) {
+    let mut from = rt.stdin();
+    let mut to = rt.stdout();
     let mut session = Session::start();
-    let mut space = io::large_buffer();
-    let mut room = io::large_buffer();
+    let mut space = [0u8; 65536];
+    let mut room = [0u8; 65536];
     let block: &mut [u8] = &mut space;
     let out: &mut [u8] = &mut room;
     let mut read = true;
     let mut written = true;
     let mut left = budget();
     while 0 < left {
-        let heard = hear(block);
-        let served = serve(session, block, heard.have, out);
+        let heard = hear(&mut from, block);
+        let served = serve(&mut to, session, block, heard.have, out);
         let after = served.next;
         session = after;
         read = heard.ok;
         written = served.written;
         left = blocks_left(left, heard, written, session.ended());
     }
-    part(session, read, written, out);
+    part(&mut to, &mut rt.stderr(), session, read, written, out);
 }

@@ -3,11 +3,12 @@
 // two digits for the length, and sixteen bytes.
 #![tactic(auto)]
 
-ghost use Rattle.std.specs.Prelude.{◌+◌, ◌≤◌, ◌<◌, length};
+ghost use Rattle.std.specs.Prelude.{◌+◌, ◌≤◌, ◌<◌, IfOk, length};
 
 use fields::{Digits, read_digits};
-use libc::{STDIN_FILENO, STDOUT_FILENO};
 use message::Certificate;
+use std::io;
+use std::io::Read;
 use store::{Place, Serials, Stored, name_of, write_runs};
 
 // The bytes of a case's first line, of a serial, and of all sixteen.
@@ -17,12 +18,12 @@ const SERIAL: usize = 18;
 
 const SERIALS: usize = 288;
 
-fn say(text: &[u8]) {
-    io::write_all(STDOUT_FILENO, text);
+fn say(rt: &impl Print, text: &[u8]) -> io::Result<()> {
+    rt.write_all(text)
 }
 
-fn tell(n: u64) {
-    io::print_decimal(STDOUT_FILENO, n);
+fn tell(rt: &impl Print, n: u64) -> io::Result<()> {
+    rt.print(n)
 }
 
 // The number that digits at a place say, five at the most.
@@ -58,88 +59,111 @@ fn serials(text: &[u8], at: usize, m: usize) -> Serials
     Serials { m, each }
 }
 
-fn tell_place(place: Place) {
+fn tell_place(rt: &impl Print, place: Place) -> io::Result<()> {
     match place {
-        Place::Nowhere => say(b"nowhere"),
+        Place::Nowhere => say(rt, b"nowhere"),
         Place::Line { line } => {
-            say(b"line ");
-            tell(line as u64);
+            say(rt, b"line ")?;
+            tell(rt, line as u64)
         }
-        Place::Day => say(b"day"),
-        Place::Count => say(b"serials"),
+        Place::Day => say(rt, b"day"),
+        Place::Count => say(rt, b"serials"),
         Place::Run { run } => {
-            say(b"run ");
-            tell(run as u64);
+            say(rt, b"run ")?;
+            tell(rt, run as u64)
         }
     }
 }
 
-fn tell_answer(answer: Stored) {
-    tell(answer.number() as u64);
-    say(b" ");
+fn tell_answer(rt: &impl Print, answer: Stored) -> io::Result<()> {
+    tell(rt, answer.number() as u64)?;
+    say(rt, b" ")?;
     match answer {
         Stored::Done { len } => {
-            tell(len as u64);
-            say(b" nowhere");
+            tell(rt, len as u64)?;
+            say(rt, b" nowhere")?;
         }
         Stored::Refused { why: _, place } => {
-            say(b"0 ");
-            tell_place(place);
+            say(rt, b"0 ")?;
+            tell_place(rt, place)?;
         }
     }
-    say(b"\n");
+    say(rt, b"\n")
 }
 
 // Writes what is answered, and all that the buffer then holds.
-fn tell_all(export: &[u8], day: &[u8], given: Serials, buf: &mut [u8]) {
+fn tell_all(
+    rt: &impl Print,
+    export: &[u8],
+    day: &[u8],
+    given: Serials,
+    buf: &mut [u8],
+) -> io::Result<()> {
     let answer = write_runs(export, day, given, buf);
-    tell_answer(answer);
-    say(buf);
-    say(b"\n");
+    tell_answer(rt, answer)?;
+    say(rt, buf)?;
+    say(rt, b"\n")
 }
 
 // The case at a place: its export, its day and its serials start and end where these say.
-fn judge(text: &[u8], at: usize, day: usize, names: usize)
+fn judge(rt: &impl Print, text: &[u8], at: usize, day: usize, names: usize) -> io::Result<()>
     requires { (at + 16 ≤ day) × (day ≤ names) × (names + 288 ≤ length text.now) }
 {
     let given = serials(text, names, number(text, at + 9, 2));
     let size = number(text, at + 12, 3) % 1000;
     let mut buf = [126u8; 1000];
     tell_all(
+        rt,
         &text[at + HEAD..day],
         &text[day..names],
         given,
         &mut buf[..size],
-    );
+    )
 }
 
 // Judges the case at a place; the answer is the place after it, or the end where it is not whole.
-fn case_at(text: &[u8], at: usize) -> usize
+fn case_at(rt: &impl Print, text: &[u8], at: usize) -> io::Result<usize>
     requires { (at < length text.now) × (length text.now ≤ 65536) }
-    ensures { (at < result) × (result ≤ length text.now) }
+    ensures { IfOk result (λ next. (at < next) × (next ≤ length text.now)) }
 {
     let day = at + HEAD + number(text, at, 5);
     let names = day + number(text, at + 6, 2);
     let end = names + SERIALS;
     if text.len() < end {
-        return text.len();
+        return Ok(text.len());
     }
-    judge(text, at, day, names);
-    end
+    judge(rt, text, at, day, names)?;
+    Ok(end)
 }
 
 // All cases of a text.
-fn judge_all(text: &[u8])
+fn judge_all(rt: &impl Print, text: &[u8]) -> io::Result<()>
     requires { length text.now ≤ 65536 }
 {
     let mut at: usize = 0;
     while at < text.len() {
-        at = case_at(text, at);
+        at = case_at(rt, text, at)?;
     }
+    Ok(())
 }
 
-fn main() {
-    let mut block = io::large_buffer();
-    let have = io::read_full(STDIN_FILENO, &mut block);
-    judge_all(&block[..have]);
+// Reads until the bytes are full or the input ends, and says how many came.
+fn read_full(from: &mut impl Read, bytes: &mut [u8]) -> io::Result<usize>
+    ensures { IfOk result (λ n. n ≤ length bytes.new) }
+{
+    let mut done = 0;
+    while done < bytes.len() {
+        let n = from.read(&mut bytes[done..])?;
+        if n == 0 {
+            break;
+        }
+        done += n;
+    }
+    Ok(done)
+}
+
+fn main(rt: HostRuntime) -> io::Result<()> {
+    let mut block = [0u8; 65536];
+    let have = read_full(&mut rt.stdin(), &mut block)?;
+    judge_all(&rt, &block[..have])
 }

@@ -1,7 +1,7 @@
 // Prints what `winner` and `decide` say of document 01's cases v1 to v12, of digests of each place in the order, and of votes with one clause of "in range" broken at a time.
 #![tactic(auto)]
 
-use libc::STDOUT_FILENO;
+use std::io;
 use units::{Group, RoundLabel, StateLabel};
 use vote::{Ballot, Decision, Digest, Poll, Seat, Votes};
 
@@ -26,105 +26,121 @@ fn digit(n: u32) -> u8 {
 }
 
 // (mask, state label), of one digit each.
-fn print_digest(d: Digest) {
+fn print_digest(rt: &impl Print, d: Digest) -> io::Result<()> {
     let out = [40u8, digit(d.mask), 44u8, digit(d.state.0), 41u8];
-    io::write_all(STDOUT_FILENO, &out);
+    rt.write_all(&out)
 }
 
-fn print_winner(a: Poll) {
+fn print_winner(rt: &impl Print, a: Poll) -> io::Result<()> {
     match a {
-        Poll::Nobody => {
-            io::write_all(STDOUT_FILENO, b"nobody");
-        }
+        Poll::Nobody => rt.write_all(b"nobody"),
         Poll::Refused(why) => {
             let out = [digit(why.number())];
-            io::write_all(STDOUT_FILENO, &out);
+            rt.write_all(&out)
         }
-        Poll::Won(d) => {
-            print_digest(d);
-        }
+        Poll::Won(d) => print_digest(rt, d),
     }
 }
 
-fn print_decision(a: Decision) {
+fn print_decision(rt: &impl Print, a: Decision) -> io::Result<()> {
     match a {
-        Decision::Undecided => {
-            io::write_all(STDOUT_FILENO, b"no");
-        }
+        Decision::Undecided => rt.write_all(b"no"),
         Decision::Refused(why) => {
             let out = [digit(why.number())];
-            io::write_all(STDOUT_FILENO, &out);
+            rt.write_all(&out)
         }
-        Decision::Decided(d) => {
-            print_digest(d);
-        }
+        Decision::Decided(d) => print_digest(rt, d),
     }
 }
 
 // A line: the winner among the votes there, a tab, what they are decided for.
-fn show(g: usize, m: usize, n: u32, seats: [Seat; 7]) {
+fn show(rt: &impl Print, g: usize, m: usize, n: u32, seats: [Seat; 7]) -> io::Result<()> {
     let group = Group { g, m };
     let label = RoundLabel(n);
-    print_winner(vote::winner(Votes {
-        group,
-        label,
-        seats,
-    }));
-    io::write_all(STDOUT_FILENO, b"\t");
-    print_decision(vote::decide(Votes {
-        group,
-        label,
-        seats,
-    }));
-    io::write_all(STDOUT_FILENO, b"\n");
+    print_winner(
+        rt,
+        vote::winner(Votes {
+            group,
+            label,
+            seats,
+        }),
+    )?;
+    rt.write_all(b"\t")?;
+    print_decision(
+        rt,
+        vote::decide(Votes {
+            group,
+            label,
+            seats,
+        }),
+    )?;
+    rt.write_all(b"\n")
 }
 
 // v1 to v12.
-fn show_cases() {
+fn show_cases(rt: &impl Print) -> io::Result<()> {
     let e = none();
-    show(3, 2, 5, [cast(3, 4), e, e, e, e, e, e]);
-    show(2, 2, 5, [cast(3, 4), e, e, e, e, e, e]);
-    show(2, 2, 5, [cast(1, 4), e, e, e, e, e, e]);
-    show(3, 2, 5, [cast(1, 4), cast(1, 4), e, e, e, e, e]);
-    show(3, 2, 5, [cast(1, 4), cast(2, 4), cast(3, 2), e, e, e, e]);
-    show(4, 2, 5, [cast(3, 4), cast(3, 4), e, e, e, e, e]);
-    show(4, 2, 5, [cast(3, 3), cast(3, 3), e, e, e, e, e]);
-    show(3, 2, 5, [cast(3, 4), cast(1, 4), e, e, e, e, e]);
-    show(4, 2, 5, [cast(3, 3), cast(3, 3), cast(1, 4), e, e, e, e]);
-    show(4, 2, 5, [cast(1, 4), cast(1, 4), cast(3, 2), e, e, e, e]);
-    show(2, 2, 5, [cast(1, 4), cast(2, 4), e, e, e, e, e]);
-    show(3, 1, 1, [cast(1, 0), e, e, e, e, e, e]);
+    show(rt, 3, 2, 5, [cast(3, 4), e, e, e, e, e, e])?;
+    show(rt, 2, 2, 5, [cast(3, 4), e, e, e, e, e, e])?;
+    show(rt, 2, 2, 5, [cast(1, 4), e, e, e, e, e, e])?;
+    show(rt, 3, 2, 5, [cast(1, 4), cast(1, 4), e, e, e, e, e])?;
+    show(
+        rt,
+        3,
+        2,
+        5,
+        [cast(1, 4), cast(2, 4), cast(3, 2), e, e, e, e],
+    )?;
+    show(rt, 4, 2, 5, [cast(3, 4), cast(3, 4), e, e, e, e, e])?;
+    show(rt, 4, 2, 5, [cast(3, 3), cast(3, 3), e, e, e, e, e])?;
+    show(rt, 3, 2, 5, [cast(3, 4), cast(1, 4), e, e, e, e, e])?;
+    show(
+        rt,
+        4,
+        2,
+        5,
+        [cast(3, 3), cast(3, 3), cast(1, 4), e, e, e, e],
+    )?;
+    show(
+        rt,
+        4,
+        2,
+        5,
+        [cast(1, 4), cast(1, 4), cast(3, 2), e, e, e, e],
+    )?;
+    show(rt, 2, 2, 5, [cast(1, 4), cast(2, 4), e, e, e, e, e])?;
+    show(rt, 3, 1, 1, [cast(1, 0), e, e, e, e, e, e])
 }
 
 // One vote each, so that the order alone tells: the state label comes before the number of measurements, that before the mask.
-fn show_order() {
+fn show_order(rt: &impl Print) -> io::Result<()> {
     let e = none();
-    show(2, 2, 5, [cast(1, 4), cast(2, 3), e, e, e, e, e]);
-    show(2, 2, 5, [cast(2, 4), cast(3, 0), e, e, e, e, e]);
-    show(2, 3, 5, [cast(4, 2), cast(3, 2), e, e, e, e, e]);
-    show(2, 3, 5, [cast(3, 2), cast(5, 2), e, e, e, e, e]);
+    show(rt, 2, 2, 5, [cast(1, 4), cast(2, 3), e, e, e, e, e])?;
+    show(rt, 2, 2, 5, [cast(2, 4), cast(3, 0), e, e, e, e, e])?;
+    show(rt, 2, 3, 5, [cast(4, 2), cast(3, 2), e, e, e, e, e])?;
+    show(rt, 2, 3, 5, [cast(3, 2), cast(5, 2), e, e, e, e, e])
 }
 
 // Votes out of range: g, m, the label, a mask of 0, a bit at m, a state label at the label, a vote beyond the group, and in the last seat.
-fn show_refused() {
+fn show_refused(rt: &impl Print) -> io::Result<()> {
     let e = none();
-    show(0, 2, 5, [e, e, e, e, e, e, e]);
-    show(8, 2, 5, [e, e, e, e, e, e, e]);
-    show(2, 0, 5, [e, e, e, e, e, e, e]);
-    show(2, 17, 5, [e, e, e, e, e, e, e]);
-    show(2, 2, 0, [e, e, e, e, e, e, e]);
-    show(2, 2, 5, [cast(0, 4), e, e, e, e, e, e]);
-    show(2, 2, 5, [cast(4, 4), e, e, e, e, e, e]);
-    show(2, 2, 5, [cast(1, 5), e, e, e, e, e, e]);
-    show(2, 2, 5, [e, e, cast(1, 4), e, e, e, e]);
-    show(6, 2, 5, [e, e, e, e, e, e, cast(1, 4)]);
-    show(7, 2, 5, [e, e, e, e, e, e, cast(0, 4)]);
+    show(rt, 0, 2, 5, [e, e, e, e, e, e, e])?;
+    show(rt, 8, 2, 5, [e, e, e, e, e, e, e])?;
+    show(rt, 2, 0, 5, [e, e, e, e, e, e, e])?;
+    show(rt, 2, 17, 5, [e, e, e, e, e, e, e])?;
+    show(rt, 2, 2, 0, [e, e, e, e, e, e, e])?;
+    show(rt, 2, 2, 5, [cast(0, 4), e, e, e, e, e, e])?;
+    show(rt, 2, 2, 5, [cast(4, 4), e, e, e, e, e, e])?;
+    show(rt, 2, 2, 5, [cast(1, 5), e, e, e, e, e, e])?;
+    show(rt, 2, 2, 5, [e, e, cast(1, 4), e, e, e, e])?;
+    show(rt, 6, 2, 5, [e, e, e, e, e, e, cast(1, 4)])?;
+    show(rt, 7, 2, 5, [e, e, e, e, e, e, cast(0, 4)])
 }
 
-fn main() {
-    show_cases();
-    show_order();
-    show_refused();
+fn main(rt: HostRuntime) -> io::Result<()> {
+    show_cases(&rt)?;
+    show_order(&rt)?;
+    show_refused(&rt)?;
     let e = none();
-    show(7, 16, 4294967295, [e, e, e, e, e, e, e]);
+    show(&rt, 7, 16, 4294967295, [e, e, e, e, e, e, e])
 }
