@@ -15,7 +15,7 @@ use Rattle.units.proofs.Every.{and_left, and_right}
 use Rattle.units.specs.Within.{within}
 use Rattle.units.proofs.InRange.{within_range}
 use Rattle.message.specs.declared.settings.Settings.{Settings}
-use Rattle.message.specs.Settings.{no_certificate, sixteen, settings_fit}
+use Rattle.message.specs.Settings.{no_certificate, settings_fit}
 use Rattle.message.proofs.InRange.{settings_exact}
 use Rattle.fields.specs.declared.spelling.Spelling.TheVariants.{Decimal, Factor}
 use Rattle.fields.specs.Put.{put, put_end, written}

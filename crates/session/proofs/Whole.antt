@@ -28,7 +28,7 @@ use Rattle.session.specs.declared.stage.Core.{Core}
 use Rattle.session.specs.declared.stage.Stage.{Stage}
 use Rattle.session.specs.declared.stage.Stage.TheVariants.{Settling as AtSettings, Waiting, Running, Ended}
 use Rattle.session.specs.Booting.{led, told}
-use Rattle.session.specs.Feeding.{advancing, line_turn, piece_held, fed, fed_text, unended, unended_line, last_of, last_turn, finished, session_start}
+use Rattle.session.specs.Feeding.{advancing, line_turn, piece_held, fed, fed_text, unended_line, last_of, last_turn, finished, session_start}
 use Rattle.session.specs.Pieces.{Feeds, Stands}
 use Rattle.session.specs.Pieces.Feeds.{none, more}
 use Rattle.session.specs.Reach.{FitsAt, CoreFits}

@@ -6,7 +6,7 @@ use native.Mathlib.Nat.{le_antisymm}
 use mathlib.Core.Path.{◌≡◌, sym, ap}
 use mathlib.Core.Bool.{true}
 use mathlib.Core.List.{List}
-use mathlib.Core.Logic.{◌⊎◌, ⊎_elim, by_cases}
+use mathlib.Core.Logic.{⊎_elim, by_cases}
 use Rattle.units.specs.declared.labels.RoundLabel.{RoundLabel}
 use Rattle.vote.specs.Decision.{seat}
 use Rattle.vote.specs.declared.digest.Digest.{Digest}

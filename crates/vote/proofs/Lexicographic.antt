@@ -2,7 +2,7 @@
 use Prim.Native.Nat.{ℕ, ◌≤◌, ◌<◌}
 use native.Mathlib.Omega.{arith}
 use native.Mathlib.Decide.{dec_lt}
-use mathlib.Core.Logic.{◌⊎◌, inl, inr, ⊎_elim, by_cases}
+use mathlib.Core.Logic.{inl, inr, ⊎_elim, by_cases}
 use mathlib.Core.Path.{◌≡◌, ap}
 use mathlib.Core.Bool.{true}
 use lib.Count.{ones, ones-le}

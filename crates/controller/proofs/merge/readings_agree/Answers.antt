@@ -1,5 +1,4 @@
 -- `readings_agree` meets its contract: after i places the test so far is `every` up to i. Assumes nothing.
-use Prim.Native.Nat.{◌-◌}
 use native.Mathlib.Omega.{arith}
 use mathlib.Core.Path.{◌≡◌, refl, ap, ◌∙◌}
 use mathlib.Core.Bool.{Bool}

@@ -1,12 +1,8 @@
 -- `certificate_end` meets its contract: what is left of the field shows what the whole shows. Assumes nothing.
 use mathlib.Core.Path.{ap}
 use mathlib.Core.Bool.{not}
-use Prim.Native.Nat.{◌-◌}
 use native.Mathlib.Omega.{arith}
-use mathlib.Core.Path.{◌≡◌, sym}
-use mathlib.Core.Bool.{true}
-use lib.ListN.{drop}
-use Rattle.fields.specs.Text.{ends}
+use mathlib.Core.Path.{sym}
 use Rattle.fields.proofs.Reading.{ends_none, ends_tab}
 use Rattle.fields.proofs.Certificates.{seen_start, seen_wrong, seen_again, seen_right, seen_size}
 use Rattle.fields.proofs.certificate.certificate_end.Goals as goal

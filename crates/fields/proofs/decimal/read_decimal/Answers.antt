@@ -1,10 +1,8 @@
 -- `read_decimal` meets its contract: what is left of the field, after the exact number so far, says what the whole says. Assumes nothing.
 use mathlib.Core.Path.{ap}
 use mathlib.Core.Bool.{not}
-use Prim.Native.Nat.{◌-◌}
 use native.Mathlib.Omega.{arith}
 use mathlib.Core.Path.{refl, sym}
-use mathlib.Core.Logic.{⊎_elim}
 use Rattle.fields.proofs.Reading.{read_start, plain_within, decimal_form, decimal_value, decimal_wrong, ends_none, ends_tab, long_again, read_grown, read_kept}
 use Rattle.fields.proofs.decimal.read_decimal.Goals as goal
 use Rattle.fields.proofs.decimal.read_decimal.Goals.{then-n, else-n}

@@ -1,5 +1,4 @@
 -- `digits_at` meets its contract: the digits that are left, after the number so far, say what all say. Assumes nothing.
-use Prim.Native.Nat.{◌-◌}
 use native.Mathlib.Omega.{arith}
 use Rattle.fields.proofs.Reading.{digits_start, digits_wrong, digits_again, digits_end, digits_short, grown_less, grown_fits}
 use Rattle.fields.proofs.digit.digits_at.Goals as goal

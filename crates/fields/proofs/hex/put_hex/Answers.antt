@@ -1,5 +1,4 @@
 -- `put_hex` meets its contract: the digits put and those left make the whole. Assumes nothing.
-use Prim.Native.Nat.{◌-◌}
 use mathlib.Core.Path.{refl}
 use Rattle.fields.proofs.Writing.{left_start, left_again, left_end}
 use Rattle.fields.proofs.hex.put_hex.Goals as goal

@@ -1,5 +1,4 @@
 -- `scan` meets its contract: after i bytes, the tabs passed and those left make the whole. Assumes nothing.
-use Prim.Native.Nat.{◌-◌}
 use native.Mathlib.Omega.{arith}
 use Rattle.fields.proofs.Scans.{scan_start, scan_feed, scan_end, scan_tab, scan_other}
 use Rattle.fields.proofs.line.scan.Goals as goal

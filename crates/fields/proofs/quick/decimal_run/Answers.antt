@@ -4,7 +4,6 @@ use mathlib.Core.Bool.{not}
 use Rattle.fields.proofs.Quicks.{run_fits}
 use mathlib.Core.Path.{refl}
 use native.Mathlib.Omega.{arith}
-use Prim.Native.Nat.{◌-◌}
 use Rattle.fields.proofs.Quicks.{run_start, run_stop, run_again, run_end, digit_taken}
 use Rattle.fields.proofs.quick.decimal_run.Goals as goal
 

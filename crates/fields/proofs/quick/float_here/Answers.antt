@@ -1,6 +1,5 @@
 -- `float_here` meets its contract. Assumes nothing.
 use native.Mathlib.Omega.{arith}
-use Prim.Native.Nat.{◌-◌}
 use Rattle.fields.proofs.Quicks.{sixteen_start, sixteen_fits, sixteen_less, sixteen_more, float_short, float_wrong, float_said}
 use Rattle.fields.proofs.quick.float_here.Goals as goal
 

@@ -1,5 +1,5 @@
 -- `readings_in_range` meets its contract: after i places the test so far is `every` up to i. Assumes nothing.
-use Rattle.std.proofs.Common.{◌-◌, refl, arith}
+use Rattle.std.proofs.Common.{refl, arith}
 use Rattle.units.specs.Every.{every}
 use Rattle.units.proofs.Every.{every_more}
 use Rattle.floats.proofs.Places.{every_end}

@@ -1,5 +1,4 @@
 -- `limit` meets its contract: each way is a case of `limited`. Assumes nothing.
-use Rattle.std.proofs.Common.{◌≡◌, false, ◌&&◌}
 use lib.Ieee.{lt, le}
 use Rattle.floats.specs.Bits.{nought}
 use Rattle.filter.proofs.Cases.{inside, above, neither, and_false_l, and_false_r}

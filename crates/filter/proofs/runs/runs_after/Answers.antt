@@ -1,5 +1,5 @@
 -- `runs_after` meets its contract: after i places those below i are as after the round, and the others are as they were. Assumes nothing.
-use Rattle.std.proofs.Common.{◌≡◌, ℕ, ◌-◌, Bool, ltb, List, get_or, le_refl, arith, rules}
+use Rattle.std.proofs.Common.{◌≡◌, ℕ, Bool, ltb, List, get_or, le_refl, arith, rules}
 use Rattle.units.specs.declared.estimate.Estimate.{Estimate}
 use Rattle.units.specs.declared.settings.Numbers.{Numbers}
 use Rattle.units.specs.Mask.{in_mask}

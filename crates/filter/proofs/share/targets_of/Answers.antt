@@ -1,5 +1,5 @@
 -- `targets_of` meets its contract: after i places those below i have their share. Assumes nothing.
-use Rattle.std.proofs.Common.{ℕ, ◌-◌, List, replicate, refl, ap, ◌∙◌, arith, rules}
+use Rattle.std.proofs.Common.{ℕ, List, replicate, refl, ap, ◌∙◌, arith, rules}
 use lib.Ieee.{Float, nan}
 use Rattle.floats.specs.Bits.{nought}
 use Rattle.units.specs.Tab.{tab}

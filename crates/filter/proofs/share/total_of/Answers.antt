@@ -1,5 +1,5 @@
 -- `total_of` meets its contract: after i runs the sum is that of the first i. Assumes nothing.
-use Rattle.std.proofs.Common.{ℕ, ◌-◌, ◌<◌, get_or, take, sym, refl, ap, ◌∙◌, subst, le_antisymm, arith, rules}
+use Rattle.std.proofs.Common.{ℕ, ◌<◌, get_or, take, sym, refl, ap, ◌∙◌, subst, le_antisymm, arith, rules}
 use lib.Ieee.{Float, binary64, add}
 use Rattle.floats.specs.Bits.{nought}
 use Rattle.floats.specs.Ranges.{no_estimate}

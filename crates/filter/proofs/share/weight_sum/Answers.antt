@@ -1,5 +1,5 @@
 -- `weight_sum` meets its contract: after i runs the sum is that of the first i, which fits. Assumes nothing.
-use Rattle.std.proofs.Common.{ℕ, ◌+◌, ◌-◌, ◌<◌, take, sym, refl, ap, ◌∙◌, subst, ap₂, le_antisymm, arith, rules}
+use Rattle.std.proofs.Common.{ℕ, ◌+◌, ◌<◌, take, sym, refl, ap, ◌∙◌, subst, ap₂, le_antisymm, arith, rules}
 use Rattle.filter.specs.Share.{sum_of, weight_sum}
 use Rattle.filter.proofs.Sums.{sum_of_more, took}
 use Rattle.filter.proofs.share.weight_sum.Goals as goal

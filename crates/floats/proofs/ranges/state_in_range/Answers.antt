@@ -1,5 +1,4 @@
 -- `state_in_range` meets its contract: after i places the test so far is `every` up to i. Assumes nothing.
-use Prim.Native.Nat.{◌-◌}
 use native.Mathlib.Omega.{arith}
 use mathlib.Core.Path.{refl, ◌∙◌}
 use Rattle.units.specs.Every.{every}

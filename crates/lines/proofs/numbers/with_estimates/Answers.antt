@@ -1,5 +1,4 @@
 -- `with_estimates` meets its contract. Assumes nothing.
-use Prim.Native.Nat.{◌-◌}
 use mathlib.Core.Path.{◌≡◌, refl, sym}
 use native.Mathlib.Omega.{arith}
 use Rattle.lines.proofs.Adding.{add_start, add_pair}

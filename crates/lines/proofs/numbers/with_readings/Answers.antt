@@ -1,6 +1,5 @@
 -- `with_readings` meets its contract. Assumes nothing.
 use Rattle.lines.proofs.Adding.{readings_here, readings_not, readings_none, readings_all, add_start}
-use Prim.Native.Nat.{◌-◌}
 use mathlib.Core.Path.{refl}
 use native.Mathlib.Omega.{arith}
 use Rattle.lines.proofs.numbers.with_readings.Goals as goal

@@ -1,5 +1,4 @@
 -- `put_setting` meets its contract. Assumes nothing.
-use native.Mathlib.Omega.{arith}
 use Prim.Native.Nat.{◌<◌}
 use Rattle.lines.proofs.Runs.{sizes_put, filter_put, run_few, certificate_long, run_written}
 use Rattle.lines.proofs.setting.put_setting.Goals as goal

@@ -1,5 +1,5 @@
 -- `readings_in` meets its contract. Assumes nothing.
-use Prim.Native.Nat.{◌+◌, ◌-◌}
+use Prim.Native.Nat.{◌+◌}
 use native.Mathlib.Omega.{arith}
 use lib.ListN.{replicate}
 use Rattle.units.proofs.Tab.{fill_more}

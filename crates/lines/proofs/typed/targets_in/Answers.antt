@@ -1,5 +1,4 @@
 -- `targets_in` meets its contract. Assumes nothing.
-use Prim.Native.Nat.{◌-◌}
 use native.Mathlib.Omega.{arith}
 use lib.ListN.{replicate}
 use Rattle.units.proofs.Tab.{fill_more}

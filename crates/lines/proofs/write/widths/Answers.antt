@@ -1,5 +1,4 @@
 -- `widths` meets its contract. Assumes nothing.
-use Prim.Native.Nat.{◌-◌}
 use mathlib.Core.Path.{◌≡◌, refl}
 use native.Mathlib.Omega.{arith}
 use Rattle.fields.specs.Text.{tabbed}

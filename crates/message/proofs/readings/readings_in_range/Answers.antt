@@ -3,7 +3,6 @@ use mathlib.Core.Bool.{Bool}
 use lib.ListN.{length, get_or}
 use borrow.Author.Tests.{eq-eqb}
 use native.Mathlib.Omega.{arith}
-use Prim.Native.Nat.{◌-◌}
 use mathlib.Core.Path.{◌≡◌, refl, ap, ◌∙◌}
 use Rattle.units.specs.Every.{every}
 use Rattle.units.proofs.Every.{every_more}

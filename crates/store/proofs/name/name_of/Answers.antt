@@ -1,5 +1,4 @@
 -- `name_of` meets its contract. Assumes nothing.
-use Prim.Native.Nat.{◌-◌}
 use borrow.Author.Rules.{rules}
 use Rattle.store.proofs.Names.{copy_start, copy_byte, copy_none, copy_done}
 use Rattle.store.proofs.name.name_of.Goals as goal

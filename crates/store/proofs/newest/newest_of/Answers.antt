@@ -1,5 +1,4 @@
 -- `newest_of` meets its contract: after i rows the best is that of the first i. Assumes nothing.
-use Prim.Native.Nat.{◌-◌}
 use native.Mathlib.Omega.{arith}
 use Rattle.units.proofs.Scan.{length_mapped}
 use Rattle.store.proofs.Looking.{best_none, best_more, best_end}

@@ -1,5 +1,4 @@
 -- `lacking` meets its contract: the first i runs have a row. Assumes nothing.
-use Prim.Native.Nat.{◌-◌}
 use native.Mathlib.Omega.{arith}
 use Rattle.units.proofs.Scan.{length_mapped}
 use Rattle.store.proofs.Firsts.{first_start, first_more, first_found, first_end}

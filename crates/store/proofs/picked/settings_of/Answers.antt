@@ -1,5 +1,4 @@
 -- `settings_of` meets its contract: the first i places are made of the rows. Assumes nothing.
-use Prim.Native.Nat.{◌-◌}
 use native.Mathlib.Omega.{arith}
 use Rattle.units.proofs.Scan.{length_mapped}
 use Rattle.store.proofs.Fills.{made_none, made_more, made_all}

@@ -1,5 +1,4 @@
 -- `put_runs` meets its contract: after i lines they stand one after the other. Assumes nothing.
-use Prim.Native.Nat.{◌-◌}
 use mathlib.Core.Path.{refl}
 use native.Mathlib.Omega.{arith}
 use Rattle.store.proofs.RunLines.{runs_top_lem}

@@ -1,5 +1,4 @@
 -- `repeated_at` meets its contract: none of the first i rows stood before. Assumes nothing.
-use Prim.Native.Nat.{◌-◌}
 use mathlib.Core.Path.{sym, ◌∙◌}
 use native.Mathlib.Omega.{arith}
 use Rattle.units.proofs.Scan.{length_mapped}

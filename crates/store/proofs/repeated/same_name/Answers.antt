@@ -1,5 +1,4 @@
 -- `same_name` meets its contract: after i bytes the test so far is of the lengths and of these bytes. Assumes nothing.
-use Prim.Native.Nat.{◌-◌}
 use mathlib.Core.Path.{◌≡◌, refl}
 use native.Mathlib.Omega.{arith}
 use lib.Dec.{eqb}

@@ -1,5 +1,4 @@
 -- `stood` meets its contract: what is found after j rows is found of the first j. Assumes nothing.
-use Prim.Native.Nat.{◌-◌}
 use native.Mathlib.Omega.{arith}
 use Rattle.units.proofs.Scan.{length_mapped}
 use Rattle.store.proofs.Looking.{stood_none, stood_more, stood_end}

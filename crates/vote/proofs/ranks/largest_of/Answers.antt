@@ -1,6 +1,6 @@
 -- `largest_of` meets its contract: the largest so far and the largest of the rest make the whole. Assumes nothing.
 use native.Mathlib.Omega.{arith}
-use Prim.Native.Nat.{◌-◌, ◌≤◌, ◌<◌}
+use Prim.Native.Nat.{◌≤◌, ◌<◌}
 use mathlib.Core.Path.{refl}
 use lib.ListN.{length}
 use Rattle.vote.specs.Decision.{largest}

@@ -1,6 +1,6 @@
 -- `largest_other` meets its contract: the largest so far and the largest of the rest make the whole. Assumes nothing.
 use native.Mathlib.Omega.{arith}
-use Prim.Native.Nat.{◌-◌, ◌≤◌, ◌<◌, max}
+use Prim.Native.Nat.{◌≤◌, ◌<◌, max}
 use mathlib.Core.Path.{refl, ap, ◌∙◌}
 use lib.ListN.{length}
 use Rattle.vote.specs.Decision.{largest, other_than, others_than}

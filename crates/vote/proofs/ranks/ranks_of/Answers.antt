@@ -2,7 +2,7 @@
 use Rattle.units.proofs.Scan.{built_step, built_end}
 use Rattle.vote.specs.Vote.{rank_of}
 use native.Mathlib.Omega.{arith}
-use Prim.Native.Nat.{◌-◌, ◌≤◌, ◌<◌}
+use Prim.Native.Nat.{◌≤◌, ◌<◌}
 use mathlib.Core.Path.{refl}
 use lib.ListN.{length, length-set}
 use Rattle.vote.proofs.ranks.ranks_of.Goals as goal

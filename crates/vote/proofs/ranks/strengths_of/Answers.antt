@@ -1,6 +1,6 @@
 -- `strengths_of` meets its contract: the first i places hold the first i strengths. Assumes nothing.
 use native.Mathlib.Omega.{arith}
-use Prim.Native.Nat.{◌-◌, ◌≤◌, ◌<◌}
+use Prim.Native.Nat.{◌≤◌, ◌<◌}
 use mathlib.Core.Path.{refl}
 use lib.ListN.{length, length-set}
 use Rattle.units.proofs.Scan.{built_step, built_end}

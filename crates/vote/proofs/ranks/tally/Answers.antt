@@ -1,6 +1,6 @@
 -- `tally` meets its contract: what is counted, and what is left to count, make the whole. Assumes nothing.
 use native.Mathlib.Omega.{arith}
-use Prim.Native.Nat.{◌-◌, ◌≤◌, ◌<◌}
+use Prim.Native.Nat.{◌≤◌, ◌<◌}
 use lib.ListN.{length}
 use Rattle.vote.proofs.Turns.{tally_turn, tally_end}
 use Rattle.vote.proofs.ranks.tally.Goals as goal

@@ -1,6 +1,5 @@
 -- `seats_in_range` meets its contract: after i seats the test so far is `every` up to i. Assumes nothing.
 use native.Mathlib.Omega.{arith}
-use Prim.Native.Nat.{◌-◌}
 use mathlib.Core.Path.{◌≡◌, refl, ap, ◌∙◌}
 use lib.ListN.{length}
 use borrow.Author.Tests.{eq-eqb}

@@ -1,5 +1,4 @@
 -- `Count::on` meets its contract: the count so far goes on over what is left to the count of the whole. Assumes nothing.
-use Prim.Native.Nat.{◌-◌}
 use native.Mathlib.Omega.{arith}
 use mathlib.Core.Path.{refl}
 use Rattle.store.proofs.Counted.{counted_again, counted_end}
