@@ -64,7 +64,7 @@ unfoldable pub buffer_all : Kept → List (List ℕ) → List ℕ → List ℕ
 buffer_all k [] buf = buf
 buffer_all k (block ∷ blocks) buf = buffer_all (kept_on k block buf) blocks (kept_buffer k block buf)
 
--- what is kept in a buffer is of this export (`Keeps-on`; `keeps_all`: after any blocks)
+-- what is kept in a buffer is of this export (`keeps_on`; `keeps_all`: after any blocks)
 pub record Keeps (k : Kept) (buf export : List ℕ) : Type 0 where
   pub len : k.len ≡ length (take keep_top export)
   pub bytes : take k.len buf ≡ take keep_top export
