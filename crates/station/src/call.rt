@@ -1,5 +1,5 @@
 // What the system answers to a call that moves bytes, and how often a call is made again.
-ghost use Rattle.std.specs.Prelude.{◌≡◌, ◌-◌, ◌^◌, ◌≤◌, length};
+ghost use Rattle.std.specs.Prelude.{◌≡◌, ◌-◌, ◌^◌, ◌≤◌, false, length, IfErr, IfOk};
 ghost use Rattle.std.specs.Io.{WritesAtMost};
 ghost use Rattle.station.specs.Calls.{is_moved, moved_by, outcome_of, reads_left, writes_left};
 
@@ -40,7 +40,9 @@ pub(crate) fn meaning(got: isize, error: i32, part: &[u8]) -> Outcome
 #[tactic(auto, using(crate::proofs::Calls::moved_within))]
 pub(crate) fn said(answer: io::Result<usize>, part: &[u8]) -> Outcome
     requires { WritesAtMost answer part.now }
-    ensures { moved_by result ≤ length part.now }
+    ensures few { moved_by result ≤ length part.now }
+    ensures came { IfOk answer (λ n. result ≡ Outcome.Moved n) }
+    ensures failed { IfErr answer (λ _. is_moved result ≡ false) }
 {
     match answer {
         Ok(n) => meaning(n as isize, 0, part),
