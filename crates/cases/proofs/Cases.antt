@@ -1,10 +1,10 @@
 -- Document 01's cases hold: one test over the table, which the checker computes, and one law from the test to the statement. Assumes nothing.
+use Rattle.std.specs.Prelude.{Err, None, Ok, Some}
 use mathlib.Core.Path.{◌≡◌, refl, ap, subst}
 use mathlib.Core.Bool.{Bool, true, false, ◌&&◌}
 use mathlib.Core.List.{List, [], ◌∷◌}
 use Rattle.units.proofs.Every.{no_way, and_left, and_right}
-use Rattle.vote.specs.declared.judge.Decision.{Decision}
-use Rattle.vote.specs.declared.judge.Decision.TheVariants.{Undecided, Decided, Refused}
+use Rattle.vote.specs.Digest.{Decision}
 use Rattle.vote.specs.Digest.{same}
 use Rattle.vote.specs.Vote.{Answers}
 use Rattle.vote.specs.Decision.{decision}
@@ -23,15 +23,15 @@ use Rattle.cases.specs.Table.{RunCase, Part, chosen, left, Row, judged, run, vot
 -- ---- the test
 
 same_decision : Decision → Decision → Bool
-same_decision (Refused a) (Refused b) = false
-same_decision (Refused a) Undecided = false
-same_decision (Refused a) (Decided e) = false
-same_decision Undecided (Refused b) = false
-same_decision Undecided Undecided = true
-same_decision Undecided (Decided e) = false
-same_decision (Decided d) (Refused b) = false
-same_decision (Decided d) Undecided = false
-same_decision (Decided d) (Decided e) = same d e
+same_decision (Err a) (Err b) = false
+same_decision (Err a) (Ok None) = false
+same_decision (Err a) (Ok (Some e)) = false
+same_decision (Ok None) (Err b) = false
+same_decision (Ok None) (Ok None) = true
+same_decision (Ok None) (Ok (Some e)) = false
+same_decision (Ok (Some d)) (Err b) = false
+same_decision (Ok (Some d)) (Ok None) = false
+same_decision (Ok (Some d)) (Ok (Some e)) = same d e
 
 measures : RunCase → Part → Bool
 measures c (chosen z) = same_float (measured c.raw c.factor) (of_whole z)
@@ -52,15 +52,15 @@ test_each (r ∷ rs) = test r && test_each rs
 
 same_decision_lem : (a b : Decision) → same_decision a b ≡ true → a ≡ b
 unfolding same_decision
-same_decision_lem (Refused a) (Refused b) h = no_way h
-same_decision_lem (Refused a) Undecided h = no_way h
-same_decision_lem (Refused a) (Decided e) h = no_way h
-same_decision_lem Undecided (Refused b) h = no_way h
-same_decision_lem Undecided Undecided h = refl
-same_decision_lem Undecided (Decided e) h = no_way h
-same_decision_lem (Decided d) (Refused b) h = no_way h
-same_decision_lem (Decided d) Undecided h = no_way h
-same_decision_lem (Decided d) (Decided e) h = ap Decided (same_true d e h)
+same_decision_lem (Err a) (Err b) h = no_way h
+same_decision_lem (Err a) (Ok None) h = no_way h
+same_decision_lem (Err a) (Ok (Some e)) h = no_way h
+same_decision_lem (Ok None) (Err b) h = no_way h
+same_decision_lem (Ok None) (Ok None) h = refl
+same_decision_lem (Ok None) (Ok (Some e)) h = no_way h
+same_decision_lem (Ok (Some d)) (Err b) h = no_way h
+same_decision_lem (Ok (Some d)) (Ok None) h = no_way h
+same_decision_lem (Ok (Some d)) (Ok (Some e)) h = ap (λ d. Ok (Some d)) (same_true d e h)
 
 measures_is : (c : RunCase) (p : Part) → measures c p ≡ true → Measures c p
 unfolding measures

@@ -1,17 +1,15 @@
 -- Document 01's cases as rows of one table, and what it is for a row to hold.
-use Rattle.std.specs.Prelude.{ℕ, ◌≡◌, Bool, true, false, List, [], ◌∷◌, ◌++◌, map, length, take, replicate}
+use Rattle.std.specs.Prelude.{ℕ, ◌≡◌, Bool, true, false, List, [], ◌∷◌, ◌++◌, map, length, take, replicate, None, Ok, Some}
 use Rattle.std.specs.Float.{binary64}
 use Rattle.std.specs.Float.Ieee.{of_bits}
 use Rattle.units.specs.declared.estimate.Estimate.{Estimate}
 use Rattle.floats.specs.Bits.{of_whole}
 use Rattle.filter.specs.Run.{measured, outcome, estimate_after}
 use Rattle.vote.specs.declared.digest.Digest.{Digest}
-use Rattle.vote.specs.declared.votes.Ballot.{Ballot}
-use Rattle.vote.specs.declared.votes.Ballot.TheVariants.{Missing, Cast}
+use Rattle.vote.specs.Digest.{Ballot}
 use Rattle.vote.specs.declared.votes.Seat.{Seat}
 use Rattle.vote.specs.declared.votes.Votes.{Votes}
-use Rattle.vote.specs.declared.judge.Decision.{Decision}
-use Rattle.vote.specs.declared.judge.Decision.TheVariants.{Undecided, Decided}
+use Rattle.vote.specs.Digest.{Decision}
 use Rattle.vote.specs.Vote.{Answers}
 
 -- m, the label, the votes with those that are missing, and the column "Decided"
@@ -56,7 +54,7 @@ votes_of c =
     record {
       group = record { g = length c.votes; m = c.m };
       label = record { 0 = c.label };
-      seats = take 7 (map seat_with c.votes ++ replicate 7 (seat_with Missing));
+      seats = take 7 (map seat_with c.votes ++ replicate 7 (seat_with None));
     }
 
 -- ---- a case of computing
@@ -105,14 +103,14 @@ abbrev pub dg : ℕ → ℕ → Digest
 dg mask state = record { mask = mask; state = record { 0 = state } }
 
 abbrev pub v : ℕ → ℕ → Ballot
-v mask state = Cast (dg mask state)
+v mask state = Some (dg mask state)
 
 -- "? for missing"
 abbrev pub absent : Ballot
-absent = Missing
+absent = None
 
 abbrev pub for : ℕ → ℕ → Decision
-for mask state = Decided (dg mask state)
+for mask state = Ok (Some (dg mask state))
 
 -- "Cases with m = 2, label 5"
 abbrev pub five : List Ballot → Decision → Row
@@ -148,15 +146,15 @@ c2 = one_run left 200000 100 0x4108_6A00_0000_0000 0x4059_0000_0000_0000
 -- v1 to v12, c1, c2
 unfoldable pub table : List Row
 table =
-    five (v 3 4 ∷ absent ∷ absent ∷ []) Undecided
+    five (v 3 4 ∷ absent ∷ absent ∷ []) (Ok None)
     ∷ five (v 3 4 ∷ absent ∷ []) (for 3 4)
-    ∷ five (v 1 4 ∷ absent ∷ []) Undecided
+    ∷ five (v 1 4 ∷ absent ∷ []) (Ok None)
     ∷ five (v 1 4 ∷ v 1 4 ∷ absent ∷ []) (for 1 4)
     ∷ five (v 1 4 ∷ v 2 4 ∷ v 3 2 ∷ []) (for 2 4)
     ∷ five (v 3 4 ∷ v 3 4 ∷ absent ∷ absent ∷ []) (for 3 4)
-    ∷ five (v 3 3 ∷ v 3 3 ∷ absent ∷ absent ∷ []) Undecided
-    ∷ five (v 3 4 ∷ v 1 4 ∷ absent ∷ []) Undecided
-    ∷ five (v 3 3 ∷ v 3 3 ∷ v 1 4 ∷ absent ∷ []) Undecided
+    ∷ five (v 3 3 ∷ v 3 3 ∷ absent ∷ absent ∷ []) (Ok None)
+    ∷ five (v 3 4 ∷ v 1 4 ∷ absent ∷ []) (Ok None)
+    ∷ five (v 3 3 ∷ v 3 3 ∷ v 1 4 ∷ absent ∷ []) (Ok None)
     ∷ five (v 1 4 ∷ v 1 4 ∷ v 3 2 ∷ absent ∷ []) (for 1 4)
     ∷ five (v 1 4 ∷ v 2 4 ∷ []) (for 2 4)
     ∷ judged (record { m = 1; label = 1; votes = v 1 0 ∷ absent ∷ absent ∷ []; verdict = for 1 0 })

@@ -2,8 +2,8 @@
 // and on standard error the place of what was refused.
 #![tactic(auto)]
 
-ghost use Rattle.std.specs.Prelude.{◌≡◌, ◌||◌, ◌+◌, ◌-◌, ◌≤◌, ltb, length};
-ghost use Rattle.units.specs.Pick.{pick};
+ghost use Rattle.std.specs.Prelude.{◌≡◌, ◌≤◌, length, MatchResult};
+ghost use Rattle.store.specs.declared.kept.Kept.{Kept};
 ghost use Rattle.certificates.specs.Hearing.{Hears};
 
 use message::Certificate;
@@ -25,10 +25,7 @@ fn space() -> [u8; KEPT]
 fn argument(rt: &impl Env, i: usize, text: &mut [u8]) -> usize
     ensures { result ≤ length text.new }
 {
-    match rt.arg(i, text) {
-        Ok(n) => n,
-        Err(_) => 0,
-    }
+    rt.arg(i, text).unwrap_or(0)
 }
 
 fn is_there(rt: &impl Env, i: usize) -> bool {
@@ -41,14 +38,9 @@ fn is_there(rt: &impl Env, i: usize) -> bool {
 
 // How many arguments there are, the program's name among them.
 fn arguments(rt: &impl Env) -> usize {
-    let mut count: usize = 0;
-    while count < usize::MAX {
-        if !is_there(rt, count) {
-            return count;
-        }
-        count += 1;
-    }
-    count
+    (0..usize::MAX)
+        .find(|i| !is_there(rt, *i))
+        .unwrap_or(usize::MAX)
 }
 
 // Argument i as a name; one that is missing, or longer than a name can be, has no bytes and so is no name.
@@ -60,15 +52,10 @@ fn serial(rt: &impl Env, i: usize) -> Certificate {
 
 // The arguments after the day, of which the first sixteen are looked at.
 fn serials(rt: &impl Env) -> Serials {
-    let count = arguments(rt);
-    let m = if count < 2 { 0 } else { count - 2 };
-    let mut each = [name_of(b""); 16];
-    let mut i: usize = 0;
-    while i < 16 {
-        each[i] = serial(rt, i + 2);
-        i += 1;
+    Serials {
+        m: arguments(rt).saturating_sub(2),
+        each: std::array::from_fn(|i| serial(rt, i + 2)),
     }
-    Serials { m, each }
 }
 
 // Writes to standard error; nothing can be told of a failure there.
@@ -92,66 +79,25 @@ fn tell_place(errors: &impl Print, place: Place) {
     }
 }
 
-// All of standard input kept and counted, and whether it could be read to its end.
-#[derive(Clone, Copy)]
-struct Heard {
-    kept: Kept,
-    ok: bool,
-}
-
-// How many more blocks may be read: none after the end or a failure. An interrupted read is made again.
-#[tactic(auto, unfolding(units::specs::Pick::pick))]
-fn blocks_left(left: u64, n: usize, again: bool) -> u64
-    requires { 1 ≤ left }
-    ensures { (result + 1 ≤ left) × (result ≡ pick (ltb 0 n || again) (left - 1) 0) }
-{
-    if (0 < n) | again {
-        return left - 1;
-    }
-    0
-}
-
-// What a read gave: how many bytes, none where it failed, and whether a signal interrupted it.
-#[derive(Clone, Copy)]
-struct Got {
-    n: usize,
-    ok: bool,
-    again: bool,
-}
-
-fn read_some(from: &mut impl Read, block: &mut [u8]) -> Got
-    ensures { result.n ≤ length block.new }
-{
-    match from.read(block) {
-        Ok(n) => Got {
-            n,
-            ok: true,
-            again: false,
-        },
-        Err(e) => Got {
-            n: 0,
-            ok: false,
-            again: e.kind() == io::ErrorKind::Interrupted,
-        },
-    }
-}
-
-// Reads standard input to its end, block by block.
-fn hear(from: &mut impl Read, held: &mut [u8]) -> Heard
-    ensures { Hears result.kept held.old held.new }
+// Reads standard input to its end, block by block, and keeps and counts all of it. An interrupted read is made again, the last one not.
+fn hear(from: &mut impl Read, held: &mut [u8]) -> io::Result<Kept>
+    ensures { MatchResult result (λ kept. Hears kept held.old held.new) (λ _. (kept : Kept) × Hears kept held.old held.new) }
 {
     let mut room = [0u8; 65536];
     let block: &mut [u8] = &mut room;
     let mut kept = Kept::start();
-    let mut ok = true;
-    let mut left: u64 = 18446744073709551615;
-    while 0 < left {
-        let got = read_some(from, block);
-        kept = kept.on(&block[..got.n], held);
-        ok = got.ok;
-        left = blocks_left(left, got.n, got.again);
+    for left in (0..u64::MAX).rev() {
+        match from.read(block) {
+            Ok(0) => return Ok(kept),
+            Ok(n) => kept = kept.on(&block[..n], held),
+            Err(e) => {
+                if left == 0 || e.kind() != io::ErrorKind::Interrupted {
+                    return Err(e);
+                }
+            }
+        }
     }
-    Heard { kept, ok }
+    Ok(kept)
 }
 
 // Writes the answer; the place goes with it only where that could be written.
@@ -172,10 +118,8 @@ fn answer(rt: &(impl Env + Print), errors: &impl Print, kept: Kept, held: &[u8])
 fn main(rt: HostRuntime) {
     let mut room = space();
     let held: &mut [u8] = &mut room;
-    let heard = hear(&mut rt.stdin(), held);
-    if !heard.ok {
-        say(&rt.stderr(), b"certificates: input failed\n");
-        return;
+    match hear(&mut rt.stdin(), held) {
+        Ok(kept) => answer(&rt, &rt.stderr(), kept, held),
+        Err(_) => say(&rt.stderr(), b"certificates: input failed\n"),
     }
-    answer(&rt, &rt.stderr(), heard.kept, held);
 }

@@ -1,10 +1,10 @@
 -- "A start gives phase idle, current label = floor, state label 0, each x = +0 and P = p, no reading, no vote."
-use Rattle.std.specs.Prelude.{ℕ, Bool, true, false, ◌&&◌, List, ltb, replicate}
+use Rattle.std.specs.Prelude.{ℕ, Bool, true, false, ◌&&◌, List, ltb, replicate, Result, Ok, Err}
 use Rattle.vote.specs.Vote.{nobody}
 use Rattle.units.specs.declared.estimate.Estimate.{Estimate}
 use Rattle.units.specs.declared.labels.RoundLabel.{RoundLabel}
+use Rattle.units.specs.declared.refusal.Refusal.{Refusal}
 use Rattle.units.specs.declared.refusal.Refusal.TheVariants.{Range}
-use Rattle.units.specs.declared.refusal.Verdict.TheVariants.{Taken, Refused}
 use Rattle.units.specs.declared.settings.Numbers.{Numbers}
 use Rattle.units.specs.Labels.{floor_fits}
 use Rattle.units.specs.Limits.{runs_top, controllers_top}
@@ -14,7 +14,6 @@ use Rattle.units.specs.Tab.{tab}
 use Rattle.floats.specs.Bits.{of_whole, nought}
 use Rattle.floats.specs.Ranges.{blank}
 use Rattle.plan.specs.declared.brief.Phase.TheVariants.{Idle}
-use Rattle.controller.specs.declared.start.Started.{Started}
 use Rattle.controller.specs.declared.state.Controller.{Controller}
 
 -- a place that is no run is blank
@@ -39,9 +38,5 @@ start_of s own floor =
     }
 
 -- 6 for a number, a floor or settings out of range
-unfoldable pub started : Numbers → ℕ → RoundLabel → Started
-started s own floor =
-    record {
-      verdict = pick (numbers_fit s && ltb own s.group.g && floor_fits floor) Taken (Refused Range);
-      controller = start_of s own floor;
-    }
+unfoldable pub started : Numbers → ℕ → RoundLabel → Result Controller Refusal
+started s own floor = pick (numbers_fit s && ltb own s.group.g && floor_fits floor) (Ok (start_of s own floor)) (Err Range)

@@ -1,13 +1,12 @@
 -- The controller's state: what a handler goes by, and what is in range.
-use Rattle.std.specs.Prelude.{ℕ, Bool, true, false, not, ◌&&◌, ltb, get_or}
+use Rattle.std.specs.Prelude.{ℕ, Bool, true, false, not, ◌&&◌, ltb, get_or, None, Some}
 use Rattle.units.specs.declared.settings.Numbers.{Numbers}
 use Rattle.units.specs.Labels.{floor_fits, state_label_fits}
 use Rattle.units.specs.Limits.{controllers_top, runs_top, label_top, raw_top, x_top, variance_top, target_top}
 use Rattle.units.specs.Mask.{mask_end}
 use Rattle.floats.specs.Bits.{of_whole}
 use Rattle.floats.specs.Ranges.{state_fits}
-use Rattle.vote.specs.declared.votes.Ballot.{Ballot}
-use Rattle.vote.specs.declared.votes.Ballot.TheVariants.{Missing, Cast}
+use Rattle.vote.specs.Digest.{Ballot}
 use Rattle.vote.specs.Digest.{legal}
 use Rattle.vote.specs.Vote.{seats_fit, nobody}
 use Rattle.message.specs.Readings.{readings_fit}
@@ -30,8 +29,8 @@ abbrev pub ballot_at : Controller → ℕ → Ballot
 ballot_at c seat = (get_or c.votes seat nobody).ballot
 
 abbrev pub cast : Ballot → Bool
-cast Missing = false
-cast (Cast d) = true
+cast None = false
+cast (Some d) = true
 
 -- "if it isn't idle and holds no reading or a state label at or above its label, or its own vote while collecting or pending, or none of its own while voting":
 -- the digest that it would vote is legal, and its own vote is there exactly while voting

@@ -1,14 +1,13 @@
 -- THE STEP: "Messages, votes, settings or a controller state handed in as values with anything out of range get 6, before all else"; then what the message leads to.
-use Rattle.std.specs.Prelude.{ℕ, Bool, not, ◌&&◌, List, get_or}
+use Rattle.std.specs.Prelude.{ℕ, Bool, not, ◌&&◌, List, get_or, Err, None}
 use Rattle.units.specs.declared.labels.RoundLabel.{RoundLabel}
 use Rattle.units.specs.declared.refusal.Refusal.TheVariants.{Range, Kind}
-use Rattle.units.specs.declared.refusal.Verdict.TheVariants.{Refused as Denied}
 use Rattle.units.specs.declared.settings.Numbers.{Numbers}
 use Rattle.units.specs.Pick.{pick}
 use Rattle.units.specs.Settings.{numbers_fit}
 use Rattle.floats.specs.Ranges.{same_state}
 use Rattle.vote.specs.declared.digest.Digest.{Digest}
-use Rattle.vote.specs.declared.judge.Decision.{Decision}
+use Rattle.vote.specs.Digest.{Decision}
 use Rattle.vote.specs.declared.votes.Votes.{Votes}
 use Rattle.vote.specs.Decision.{decision}
 use Rattle.vote.specs.Vote.{seated}
@@ -22,7 +21,6 @@ use Rattle.plan.specs.declared.planned.Change.{Change}
 use Rattle.plan.specs.declared.planned.Effect.{Effect}
 use Rattle.plan.specs.declared.planned.Effect.TheVariants.{Keep, Go, Begin, Add, Merge, Adopt, Count, Issue, Restart}
 use Rattle.plan.specs.declared.planned.Plan.{Plan}
-use Rattle.plan.specs.declared.planned.Sent.TheVariants.{Nothing}
 use Rattle.plan.specs.Plan.{refuse, does, change_of}
 use Rattle.plan.specs.Readings.{plan_reading, plan_query, plan_reply}
 use Rattle.plan.specs.States.{plan_advert, plan_update, plan_setpoints}
@@ -96,4 +94,4 @@ carried_out s c a p = record { next = applied s a c p.effect; first = p.first; s
 unfoldable pub stepped : Numbers → Controller → Message → Answer
 stepped s c a =
     pick (inputs_fit s c a) (carried_out s c a (planned s c a a.head))
-    (record { next = c; first = Nothing; second = Nothing; verdict = Denied Range })
+    (record { next = c; first = None; second = None; verdict = Err Range })

@@ -9,7 +9,6 @@ pub mod state;
 pub mod step;
 pub mod told;
 
-pub use start::Started;
 pub use state::Controller;
 pub use step::Answer;
 pub use told::Told;

@@ -9,10 +9,7 @@ use units::mask::has;
 pub(crate) fn run_bit(run: usize) -> u32
     ensures { result ≡ run_bit run }
 {
-    if Controller::RUNS <= run {
-        return 0;
-    }
-    1u32 << run
+    if run < Controller::RUNS { 1 << run } else { 0 }
 }
 
 // A place agrees where one of the two sets has no reading, or both have the same.
@@ -26,13 +23,7 @@ fn place_agrees(here: bool, a: u32, b: u32) -> bool
 pub(crate) fn readings_agree(shared: u32, a: [u32; 16], b: [u32; 16]) -> bool
     ensures { result ≡ agrees shared a b }
 {
-    let mut same = true;
-    let mut i = 0usize;
-    while i < Controller::RUNS {
-        same = same & place_agrees(has(shared, i), a[i], b[i]);
-        i += 1;
-    }
-    same
+    (0..Controller::RUNS).all(|i| place_agrees(has(shared, i), a[i], b[i]))
 }
 
 fn place_merged(here: bool, new: u32, old: u32) -> u32
@@ -45,18 +36,12 @@ fn place_merged(here: bool, new: u32, old: u32) -> u32
 pub(crate) fn merge_readings(mask: u32, new: [u32; 16], old: [u32; 16]) -> [u32; 16]
     ensures { result ≡ merged mask new old }
 {
-    let mut next = old;
-    let mut i = 0usize;
-    while i < Controller::RUNS {
-        next[i] = place_merged(has(mask, i), new[i], next[i]);
-        i += 1;
-    }
-    next
+    std::array::from_fn(|i| place_merged(has(mask, i), new[i], old[i]))
 }
 
 // The readings of the mask, and 0 for the others.
 pub(crate) fn select_readings(mask: u32, readings: [u32; 16]) -> [u32; 16]
     ensures { result ≡ selected mask readings }
 {
-    merge_readings(mask, readings, [0u32; 16])
+    merge_readings(mask, readings, [0; 16])
 }

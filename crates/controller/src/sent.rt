@@ -11,72 +11,46 @@ use message::{Head, Message};
 use units::Numbers;
 
 impl Controller {
+    #[tactic(auto, unfolding(message::specs::Message::plain))]
     fn reply(self, head: Head, mask: u32) -> Message
         ensures { result ≡ with_readings head (selected mask self.readings) }
     {
-        let plain = Message::plain(head);
-        let estimates = plain.estimates;
-        let targets = plain.targets;
-        let held = self.readings;
-        let readings = select_readings(mask, held);
         Message {
-            head,
-            readings,
-            estimates,
-            targets,
+            readings: select_readings(mask, self.readings),
+            ..Message::plain(head)
         }
     }
 
+    #[tactic(auto, unfolding(message::specs::Message::plain))]
     fn update(self, head: Head) -> Message
         ensures { result ≡ with_estimates head self.estimates }
     {
-        let plain = Message::plain(head);
-        let readings = plain.readings;
-        let targets = plain.targets;
         let estimates = self.estimates;
         Message {
-            head,
-            readings,
             estimates,
-            targets,
+            ..Message::plain(head)
         }
     }
 
+    #[tactic(auto, unfolding(message::specs::Message::plain))]
     fn setpoints(self, numbers: Numbers, head: Head) -> Message
         ensures { result ≡ with_targets head (set_points numbers self.estimates) }
     {
-        let plain = Message::plain(head);
-        let readings = plain.readings;
-        let estimates = plain.estimates;
-        let state = self.estimates;
-        let targets = targets_from(state, numbers);
         Message {
-            head,
-            readings,
-            estimates,
-            targets,
+            targets: targets_from(self.estimates, numbers),
+            ..Message::plain(head)
         }
     }
 
     // A message that this controller sends after a step: R has the readings asked for, U the estimates, S the targets of the state.
+    #[tactic(auto, unfolding(crate::specs::Sent::sent_message))]
     pub fn message(self, numbers: Numbers, head: Head) -> Message
         ensures { result ≡ sent_message numbers self head }
     {
         match head {
-            Head::Reply {
-                sender: _,
-                label: _,
-                mask,
-            } => self.reply(head, mask),
-            Head::Update {
-                sender: _,
-                state: _,
-            } => self.update(head),
-            Head::Setpoints {
-                sender: _,
-                label: _,
-                digest: _,
-            } => self.setpoints(numbers, head),
+            Head::Reply { mask, .. } => self.reply(head, mask),
+            Head::Update { .. } => self.update(head),
+            Head::Setpoints { .. } => self.setpoints(numbers, head),
             _ => Message::plain(head),
         }
     }

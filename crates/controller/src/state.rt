@@ -70,14 +70,11 @@ impl Controller {
     pub(crate) fn brief(self) -> Brief
         ensures { result ≡ brief_of self }
     {
-        let phase = self.phase;
-        let label = self.label;
-        let state = self.state;
         Brief {
             own: self.own,
-            phase,
-            label,
-            state,
+            phase: self.phase,
+            label: self.label,
+            state: self.state,
             held: self.held,
         }
     }
@@ -86,12 +83,10 @@ impl Controller {
     pub(crate) fn ballot(self, seat: usize) -> Ballot
         ensures { result ≡ ballot_at self seat }
     {
-        if seat < Controller::CONTROLLERS {
-            let s = self.votes[seat];
-            let b = s.ballot;
-            return b;
+        match self.votes.get(seat) {
+            Some(s) => s.ballot,
+            None => None,
         }
-        Ballot::Missing
     }
 }
 
@@ -99,24 +94,19 @@ impl Controller {
 fn is_cast(b: Ballot) -> bool
     ensures { result ≡ cast b }
 {
-    match b {
-        Ballot::Missing => false,
-        Ballot::Cast(_) => true,
-    }
+    matches!(b, Some(_))
 }
 
 // Not idle: the digest that it would vote is legal, and its own vote is there exactly while voting.
+#[tactic(auto, unfolding(crate::specs::State::phase_fits))]
 fn phase_in_range(b: Brief, m: usize, own: Ballot) -> bool
     ensures { result ≡ phase_fits b m own b.phase }
 {
-    let phase = b.phase;
-    let label = b.label;
-    let digest = b.own_digest();
-    match phase {
+    let legal = b.own_digest().legal(m, b.label);
+    match b.phase {
         Phase::Idle => true,
-        Phase::Collecting => digest.legal(m, label) & !is_cast(own),
-        Phase::Pending => digest.legal(m, label) & !is_cast(own),
-        Phase::Voting => digest.legal(m, label) & is_cast(own),
+        Phase::Collecting | Phase::Pending => legal & !is_cast(own),
+        Phase::Voting => legal & is_cast(own),
     }
 }
 
@@ -125,20 +115,13 @@ impl Controller {
         ensures { result ≡ controller_fits numbers self }
     {
         let group = numbers.group;
-        let m = group.m;
-        let own = self.own;
-        let label = self.label;
-        let state = self.state;
-        let estimates = self.estimates;
-        let readings = self.readings;
-        let votes = self.votes;
-        (own < group.g)
-            & label.floor_in_range()
-            & state.in_range()
-            & state_in_range(estimates, m)
-            & (self.held < mask_end(m))
-            & readings_in_range(self.held, readings)
-            & seats_in_range(votes, group, label)
-            & phase_in_range(self.brief(), m, self.ballot(own))
+        (self.own < group.g)
+            & self.label.floor_in_range()
+            & self.state.in_range()
+            & state_in_range(self.estimates, group.m)
+            & (self.held < mask_end(group.m))
+            & readings_in_range(self.held, self.readings)
+            & seats_in_range(self.votes, group, self.label)
+            & phase_in_range(self.brief(), group.m, self.ballot(self.own))
     }
 }

@@ -26,28 +26,25 @@ impl Controller {
     fn reading(self, run: usize) -> u32
         ensures { result ≡ get_or self.readings run 0 }
     {
-        if run < Controller::RUNS {
-            return self.readings[run];
+        match self.readings.get(run) {
+            Some(raw) => *raw,
+            None => 0,
         }
-        0
     }
 
     // What all votes are decided for, once a vote is in its seat.
     fn decision_with(self, numbers: Numbers, seat: usize, digest: Digest) -> Decision
         ensures { result ≡ decision_with numbers self seat digest }
     {
-        let group = numbers.group;
-        let label = self.label;
-        let votes = self.votes;
-        let seats = put_vote(votes, seat, digest);
         decide(Votes {
-            group,
-            label,
-            seats,
+            group: numbers.group,
+            label: self.label,
+            seats: put_vote(self.votes, seat, digest),
         })
     }
 
     // A vote taken in: judged while voting.
+    #[tactic(auto, unfolding(crate::specs::Step::judged_in))]
     fn judged_in(
         self,
         numbers: Numbers,
@@ -58,45 +55,27 @@ impl Controller {
     ) -> Plan
         ensures { result ≡ judged_in numbers self plan seat digest phase }
     {
-        let first = plan.first;
         match phase {
-            Phase::Idle => plan,
-            Phase::Collecting => plan,
-            Phase::Pending => plan,
             Phase::Voting => {
                 let decision = self.decision_with(numbers, seat, digest);
-                self.brief().judge(seat, digest, first, decision)
+                self.brief().judge(seat, digest, plan.first, decision)
             }
+            _ => plan,
         }
     }
 
     // "While voting, the vote is judged after F and after each D": a plan that takes in no vote stands.
+    #[tactic(auto, unfolding(crate::specs::Step::judged_plan))]
     fn judged_plan(self, numbers: Numbers, plan: Plan) -> Plan
         ensures { result ≡ judged_plan numbers self plan plan.effect }
     {
-        let effect = plan.effect;
-        match effect {
-            Effect::Keep => plan,
-            Effect::Go { phase: _ } => plan,
-            Effect::Begin {
-                label: _,
-                run: _,
-                raw: _,
-            } => plan,
-            Effect::Add { run: _, raw: _ } => plan,
-            Effect::Merge { mask: _ } => plan,
-            Effect::Adopt { state: _, phase: _ } => plan,
+        match plan.effect {
             Effect::Count {
                 seat,
                 digest,
                 phase,
             } => self.judged_in(numbers, plan, seat, digest, phase),
-            Effect::Issue {
-                seat: _,
-                digest: _,
-                chosen: _,
-            } => plan,
-            Effect::Restart { own: _, floor: _ } => plan,
+            _ => plan,
         }
     }
 
@@ -104,36 +83,33 @@ impl Controller {
     fn clashes(self, mask: u32, new: [u32; 16]) -> bool
         ensures { result ≡ clashing self mask new }
     {
-        let old = self.readings;
-        !readings_agree(mask & self.held, new, old)
+        !readings_agree(mask & self.held, new, self.readings)
     }
 
     // U: whether its estimates are ours, bit for bit.
     fn holds_state(self, theirs: [Estimate; 16]) -> bool
         ensures { result ≡ same_state theirs self.estimates }
     {
-        let ours = self.estimates;
-        same_state(theirs, ours)
+        same_state(theirs, self.estimates)
     }
 
     // How much a reading changes.
     pub fn reading_change(self, label: RoundLabel, run: usize, raw: u32) -> Change
         ensures { result ≡ reading_change self label run raw }
     {
-        let plan = self.brief().on_reading(self.reading(run), label, run, raw);
-        let effect = plan.effect;
-        effect.change()
+        self.brief()
+            .on_reading(self.reading(run), label, run, raw)
+            .effect
+            .change()
     }
 
     // What the message leads to.
+    #[tactic(auto, unfolding(crate::specs::Step::planned))]
     pub fn plan(self, numbers: Numbers, message: Message) -> Plan
         ensures { result ≡ planned numbers self message message.head }
     {
-        let head = message.head;
-        let readings = message.readings;
-        let estimates = message.estimates;
         let brief = self.brief();
-        match head {
+        match message.head {
             Head::Reading { label, run, raw } => brief.on_reading(
                 self.reading(run),
                 label,
@@ -149,12 +125,12 @@ impl Controller {
                 sender,
                 label,
                 mask,
-            } => brief.on_reply(sender, label, mask, self.clashes(mask, readings)),
+            } => brief.on_reply(sender, label, mask, self.clashes(mask, message.readings)),
             Head::Advert { sender, state } => brief.on_advert(sender, state),
             Head::Update { sender, state } => brief.on_update(
                 sender,
                 state,
-                self.holds_state(estimates),
+                self.holds_state(message.estimates),
             ),
             Head::Vote {
                 sender,
@@ -164,21 +140,18 @@ impl Controller {
                 numbers,
                 brief.on_digest(self.ballot(sender), sender, label, digest),
             ),
-            Head::Setpoints {
-                sender,
-                label: _,
-                digest: _,
-            } => brief.on_setpoints(sender),
+            Head::Setpoints { sender, .. } => brief.on_setpoints(sender),
             Head::Due { label } => brief.on_due(numbers.group.m, label),
             Head::CollectingEnds { label } => brief.on_collecting_ends(label),
             Head::VotingEnds { label } => brief.on_voting_ends(label),
             Head::Floor { label } => self.judged_plan(numbers, brief.on_floor(label)),
             Head::Start { own, floor } => doing(Effect::Restart { own, floor }),
-            Head::Refused { number: _ } => refusal(Refusal::Kind),
+            Head::Refused { .. } => refusal(Refusal::Kind),
         }
     }
 
     // Settings, state and message in range, or 6 before all else.
+    #[tactic(auto, unfolding(crate::specs::Step::inputs_fit))]
     fn inputs_in_range(self, numbers: Numbers, message: Message) -> bool
         ensures { result ≡ inputs_fit numbers self message }
     {
@@ -190,20 +163,16 @@ impl Controller {
         ensures { result ≡ carried_out numbers self message (planned numbers self message message.head) }
     {
         let plan = self.plan(numbers, message);
-        let first = plan.first;
-        let second = plan.second;
-        let verdict = plan.verdict;
-        let effect = plan.effect;
-        let next = self.apply(numbers, message, effect);
         Answer {
-            next,
-            first,
-            second,
-            verdict,
+            next: self.apply(numbers, message, plan.effect),
+            first: plan.first,
+            second: plan.second,
+            verdict: plan.verdict,
         }
     }
 
     // A step on any inputs: 6 where one is out of range. `step` makes the messages of its answer.
+    #[tactic(auto, unfolding(crate::specs::Step::stepped, units::specs::Pick::pick))]
     pub(crate) fn checked(self, numbers: Numbers, message: Message) -> Answer
         ensures { result ≡ stepped numbers self message }
     {
@@ -212,9 +181,9 @@ impl Controller {
         } else {
             Answer {
                 next: self,
-                first: Sent::Nothing,
-                second: Sent::Nothing,
-                verdict: Verdict::Refused(Refusal::Range),
+                first: None,
+                second: None,
+                verdict: Err(Refusal::Range),
             }
         }
     }

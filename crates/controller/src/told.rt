@@ -1,64 +1,47 @@
 // What a step tells its caller: the next controller, and the messages to send, whole.
-ghost use Rattle.std.specs.Prelude.{◌≡◌, ◌≤◌};
+ghost use Rattle.std.specs.Prelude.{◌≡◌};
 ghost use Rattle.controller.specs.Step.{stepped};
-ghost use Rattle.controller.specs.Told.{sent_count, told, whole_of};
+ghost use Rattle.controller.specs.Told.{told, whole_of};
 
 use crate::state::Controller;
 use crate::step::Answer;
-use message::{Head, Message};
+use message::Message;
 use plan::Sent;
 use units::{Numbers, Verdict};
 
-// How many messages are sent, 0, 1 or 2, and which, in their order; where none is sent stands X with number 0, which is no message.
+// The messages sent, in their order and with no gap before the second.
 #[derive(Clone, Copy)]
 pub struct Told {
     pub next: Controller,
-    pub sent: u32,
-    pub first: Message,
-    pub second: Message,
+    pub first: Option<Message>,
+    pub second: Option<Message>,
     pub verdict: Verdict,
-}
-
-// One for a message, none for nothing.
-fn number_sent(sent: Sent) -> u32
-    ensures { (result ≡ sent_count sent) × (result ≤ 1) }
-{
-    match sent {
-        Sent::Nothing => 0,
-        Sent::One(_) => 1,
-    }
 }
 
 impl Controller {
     // The message that is sent, whole, by the controller after the step.
-    fn whole(self, numbers: Numbers, sent: Sent) -> Message
+    #[tactic(auto, unfolding(crate::specs::Told::whole_of))]
+    fn whole(self, numbers: Numbers, sent: Sent) -> Option<Message>
         ensures { result ≡ whole_of numbers self sent }
     {
         match sent {
-            Sent::Nothing => Message::plain(Head::Refused { number: 0 }),
-            Sent::One(head) => self.message(numbers, head),
+            None => None,
+            Some(head) => Some(self.message(numbers, head)),
         }
     }
 }
 
 impl Answer {
     // The answer with its messages made.
+    #[tactic(auto, unfolding(crate::specs::Told::told))]
     pub(crate) fn tell(self, numbers: Numbers) -> Told
         ensures { result ≡ told numbers self }
     {
-        let next = self.next;
-        let one = self.first;
-        let two = self.second;
-        let verdict = self.verdict;
-        let sent = number_sent(one) + number_sent(two);
-        let first = next.whole(numbers, one);
-        let second = next.whole(numbers, two);
         Told {
-            next,
-            sent,
-            first,
-            second,
-            verdict,
+            next: self.next,
+            first: self.next.whole(numbers, self.first),
+            second: self.next.whole(numbers, self.second),
+            verdict: self.verdict,
         }
     }
 }
@@ -68,7 +51,6 @@ impl Controller {
     pub fn step(self, numbers: Numbers, message: Message) -> Told
         ensures { result ≡ told numbers (stepped numbers self message) }
     {
-        let answer = self.checked(numbers, message);
-        answer.tell(numbers)
+        self.checked(numbers, message).tell(numbers)
     }
 }

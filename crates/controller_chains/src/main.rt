@@ -7,13 +7,12 @@ mod chain;
 mod print;
 mod wrong;
 
-use chain::{CHAIN, STEPS};
+use chain::CHAIN;
 use controller::Controller;
 use message::{Head, Message};
-use std::io;
-use units::limits::RUNS;
+use std::{array, io};
 use units::mask::has;
-use units::{Estimate, Group, Numbers, RoundLabel, StateLabel};
+use units::{Estimate, Group, Numbers, RoundLabel, StateLabel, verdict_number};
 use vote::Digest;
 
 // Three controllers and three runs.
@@ -36,20 +35,15 @@ pub(crate) fn settings() -> Numbers {
     }
 }
 
-// A run's reading, 0 where there is none.
-fn reading(here: bool, raw: u32) -> u32 {
-    if here { raw } else { 0 }
-}
-
 // The readings of an R: first, and 100 more for each run, of the mask's runs.
 fn readings_from(mask: u32, first: u32) -> [u32; 16] {
-    let mut readings = [0u32; 16];
-    let mut i = 0usize;
-    while i < RUNS {
-        readings[i] = reading(has(mask, i), first % 1000000 + (i as u32) * 100);
-        i += 1;
-    }
-    readings
+    array::from_fn(|i| {
+        if has(mask, i) {
+            first % 1000000 + (i as u32) * 100
+        } else {
+            0
+        }
+    })
 }
 
 // The estimates of a U: x, and 1 more for each run; one P for all.
@@ -58,13 +52,11 @@ fn estimates_from(x: u32, variance: u32) -> [Estimate; 16] {
         x: 0.0,
         variance: 0.0,
     }; 16];
-    let mut i = 0usize;
-    while i < 3 {
+    for i in 0..3 {
         estimates[i] = Estimate {
             x: (x % 1000000 + i as u32) as f64,
             variance: variance as f64,
         };
-        i += 1;
     }
     estimates
 }
@@ -74,76 +66,73 @@ fn digest(state: u32, mask: u32) -> Digest {
     Digest { mask, state }
 }
 
-// What a message's five numbers say, but for its arrays.
-fn head(kind: u32, a: u32, b: u32, c: u32, d: u32) -> Head {
+// What a message from another controller says by its kind and numbers, but for its arrays.
+fn head(kind: u8, values: [u32; 4]) -> Head {
+    let [a, b, c, d] = values;
     let sender = a as usize;
-    let own = sender;
-    let run = b as usize;
-    let first = RoundLabel(a);
     let label = RoundLabel(b);
     let state = StateLabel(b);
     match kind {
-        65 => Head::Advert { sender, state },
-        66 => Head::Start { own, floor: label },
-        67 => Head::Due { label: first },
-        68 => Head::Vote {
+        b'A' => Head::Advert { sender, state },
+        b'D' => Head::Vote {
             sender,
             label,
             digest: digest(c, d),
         },
-        69 => Head::CollectingEnds { label: first },
-        70 => Head::Floor { label: first },
-        77 => Head::Reading {
-            label: first,
-            run,
+        b'Q' => Head::Query {
+            sender,
+            label,
+            mask: c,
+        },
+        b'R' => Head::Reply {
+            sender,
+            label,
+            mask: c,
+        },
+        b'S' => Head::Setpoints {
+            sender,
+            label,
+            digest: digest(c, d),
+        },
+        b'U' => Head::Update { sender, state },
+        _ => host_head(kind, a, b, c),
+    }
+}
+
+// The same of the host's.
+fn host_head(kind: u8, a: u32, b: u32, c: u32) -> Head {
+    let label = RoundLabel(a);
+    let own = a as usize;
+    let floor = RoundLabel(b);
+    match kind {
+        b'B' => Head::Start { own, floor },
+        b'C' => Head::Due { label },
+        b'E' => Head::CollectingEnds { label },
+        b'F' => Head::Floor { label },
+        b'M' => Head::Reading {
+            label,
+            run: b as usize,
             raw: c,
         },
-        81 => Head::Query {
-            sender,
-            label,
-            mask: c,
-        },
-        82 => Head::Reply {
-            sender,
-            label,
-            mask: c,
-        },
-        83 => Head::Setpoints {
-            sender,
-            label,
-            digest: digest(c, d),
-        },
-        85 => Head::Update { sender, state },
-        86 => Head::VotingEnds { label: first },
+        b'V' => Head::VotingEnds { label },
         _ => Head::Refused { number: a },
     }
 }
 
-fn message(kind: u32, a: u32, b: u32, c: u32, d: u32) -> Message {
-    let plain = Message::plain(head(kind, a, b, c, d));
-    let head = plain.head;
-    let targets = plain.targets;
-    if kind == 82 {
-        let readings = readings_from(c, d);
-        let estimates = plain.estimates;
-        return Message {
-            head,
-            readings,
-            estimates,
-            targets,
-        };
+fn message(kind: u8, values: [u32; 4]) -> Message {
+    let [_, _, c, d] = values;
+    let plain = Message::plain(head(kind, values));
+    match kind {
+        b'R' => Message {
+            readings: readings_from(c, d),
+            ..plain
+        },
+        b'U' => Message {
+            estimates: estimates_from(c, d),
+            ..plain
+        },
+        _ => plain,
     }
-    if kind == 85 {
-        let readings = plain.readings;
-        let estimates = estimates_from(c, d);
-        return Message {
-            head,
-            readings,
-            estimates,
-            targets,
-        };
-    }
-    plain
 }
 
 fn play(rt: &impl Print, numbers: Numbers, c: Controller, a: Message) -> io::Result<Controller> {
@@ -152,12 +141,11 @@ fn play(rt: &impl Print, numbers: Numbers, c: Controller, a: Message) -> io::Res
     let verdict = r.verdict;
     let next = r.next;
     let now = next.state;
-    print::number(rt, verdict.number())?;
+    print::number(rt, verdict_number(verdict))?;
     print::brief(rt, next)?;
     print::sent(rt, numbers.group.m, r)?;
     if !now.same(before) {
-        let estimates = next.estimates;
-        print::state(rt, numbers.group.m, estimates)?;
+        print::estimates(rt, numbers.group.m, next.estimates)?;
     }
     print::end(rt)?;
     Ok(next)
@@ -166,18 +154,8 @@ fn play(rt: &impl Print, numbers: Numbers, c: Controller, a: Message) -> io::Res
 fn main(rt: HostRuntime) -> io::Result<()> {
     let numbers = settings();
     let mut c = Controller::begin(numbers, 0, RoundLabel(0));
-    let mut i = 0usize;
-    while i < STEPS {
-        let k = i * 5;
-        let a = message(
-            CHAIN[k],
-            CHAIN[k + 1],
-            CHAIN[k + 2],
-            CHAIN[k + 3],
-            CHAIN[k + 4],
-        );
-        c = play(&rt, numbers, c, a)?;
-        i += 1;
+    for (kind, values) in CHAIN {
+        c = play(&rt, numbers, c, message(kind, values))?;
     }
     wrong::states(&rt)?;
     wrong::starts(&rt)

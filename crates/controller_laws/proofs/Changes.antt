@@ -1,4 +1,5 @@
 -- Where readings, votes and the state after a step come from, and that readings held are never altered. Assumes nothing.
+use Rattle.std.specs.Prelude.{None, Some}
 use Prim.Native.Nat.{ℕ, zero, suc, ◌≤◌, ◌<◌}
 use native.Mathlib.Omega.{arith}
 use native.Mathlib.Decide.{ℕ_discrete, dec_lt}
@@ -19,8 +20,7 @@ use Rattle.units.specs.Mask.{in_mask}
 use Rattle.units.proofs.Every.{absurd_by, and_left, and_right, every_at}
 use Rattle.units.proofs.Masks.{no_run, in_and, in_or}
 use Rattle.vote.specs.declared.digest.Digest.{Digest}
-use Rattle.vote.specs.declared.votes.Ballot.{Ballot}
-use Rattle.vote.specs.declared.votes.Ballot.TheVariants.{Missing, Cast}
+use Rattle.vote.specs.Digest.{Ballot}
 use Rattle.vote.specs.declared.votes.Seat.{Seat}
 use Rattle.vote.specs.Vote.{nobody, seated}
 use Rattle.message.specs.declared.head.Head.{Head}
@@ -33,8 +33,7 @@ use Rattle.plan.specs.declared.brief.Phase.TheVariants.{Pending}
 use Rattle.plan.specs.declared.planned.Effect.{Effect}
 use Rattle.plan.specs.declared.planned.Effect.TheVariants.{Issue}
 use Rattle.plan.specs.declared.planned.Plan.{Plan}
-use Rattle.plan.specs.declared.planned.Sent.{Sent}
-use Rattle.plan.specs.declared.planned.Sent.TheVariants.{Nothing, One}
+use Rattle.plan.specs.Plan.{Sent}
 use Rattle.plan.specs.Plan.{afterwards}
 use Rattle.plan.specs.Votes.{own_digest}
 use Rattle.controller.specs.declared.state.Controller.{Controller}
@@ -196,35 +195,35 @@ none_cast zero i = refl
 none_cast (suc n) zero = refl
 none_cast (suc n) (suc i) = none_cast n i
 
-pub not_missing : {A : Type 0} {d : Digest} → Missing ≡ Cast d → A
+pub not_missing : {A : Type 0} {d : Digest} → ◌≡◌ {A = Ballot} None (Some d) → A
 not_missing p = absurd_by (cc)
 
 -- a start holds no vote
-pub no_vote : {A : Type 0} (i : ℕ) {d : Digest} → (get_or (replicate controllers_top nobody) i nobody).ballot ≡ Cast d → A
+pub no_vote : {A : Type 0} (i : ℕ) {d : Digest} → (get_or (replicate controllers_top nobody) i nobody).ballot ≡ Some d → A
 no_vote i h = not_missing (sym (ap (λ (x : Seat). x.ballot) (none_cast controllers_top i)) ∙ h)
 
-pub same_digest : {d e : Digest} → Cast d ≡ Cast e → d ≡ e
+pub same_digest : {d e : Digest} → ◌≡◌ {A = Ballot} (Some d) (Some e) → d ≡ e
 same_digest p = cc
 
 -- a vote among the seats after one was put in: that one, or one that was there
-seated_from : (votes : List Seat) (seat : ℕ) (digest : Digest) (j : ℕ) (d : Digest) → (get_or (seated votes seat digest) j nobody).ballot ≡ Cast d
-    → ((j ≡ seat) × (digest ≡ d)) ⊎ ((get_or votes j nobody).ballot ≡ Cast d)
+seated_from : (votes : List Seat) (seat : ℕ) (digest : Digest) (j : ℕ) (d : Digest) → (get_or (seated votes seat digest) j nobody).ballot ≡ Some d
+    → ((j ≡ seat) × (digest ≡ d)) ⊎ ((get_or votes j nobody).ballot ≡ Some d)
 seated_from votes seat digest j d h =
     by_cases (ℕ_discrete j seat)
     (λ e. by_cases (dec_lt seat (length votes))
-    (λ l. inl (e, same_digest (sym (ap (λ (x : Seat). x.ballot) (ap (λ (n : ℕ). get_or (seated votes seat digest) n nobody) e ∙ get_or-set_same votes seat (record { ballot = Cast digest }) nobody l)) ∙ h)))
-    (λ l. inr (ap (λ (x : List Seat). (get_or x j nobody).ballot) (sym (set_out votes seat (record { ballot = Cast digest }) (omega arith))) ∙ h)))
-    (λ n. inr (ap (λ (x : Seat). x.ballot) (sym (get_or-set_other votes seat j (record { ballot = Cast digest }) nobody n)) ∙ h))
+    (λ l. inl (e, same_digest (sym (ap (λ (x : Seat). x.ballot) (ap (λ (n : ℕ). get_or (seated votes seat digest) n nobody) e ∙ get_or-set_same votes seat (record { ballot = Some digest }) nobody l)) ∙ h)))
+    (λ l. inr (ap (λ (x : List Seat). (get_or x j nobody).ballot) (sym (set_out votes seat (record { ballot = Some digest }) (omega arith))) ∙ h)))
+    (λ n. inr (ap (λ (x : Seat). x.ballot) (sym (get_or-set_other votes seat j (record { ballot = Some digest }) nobody n)) ∙ h))
 
 -- what goes out with a vote is what is sent first
-as_sent : (first : Sent) → OnSent (λ x. first ≡ One x) first
-as_sent Nothing = tt
-as_sent (One head) = refl
+as_sent : (first : Sent) → OnSent (λ x. first ≡ Some x) first
+as_sent None = tt
+as_sent (Some head) = refl
 
-sent_ahead : (e : Effect) (h : Head) (first : Sent) → OnSent (λ x. (afterwards e h first).first ≡ One x) first
+sent_ahead : (e : Effect) (h : Head) (first : Sent) → OnSent (λ x. (afterwards e h first).first ≡ Some x) first
 unfolding afterwards
-sent_ahead e h Nothing = tt
-sent_ahead e h (One head) = refl
+sent_ahead e h None = tt
+sent_ahead e h (Some head) = refl
 
 same_vote : {i j : ℕ} {l k : RoundLabel} {d e : Digest} → i ≡ j → l ≡ k → d ≡ e → Vote i l d ≡ Vote j k e
 same_vote p q r = λ t. Vote (p t) (q t) (r t)
@@ -235,15 +234,15 @@ module _ (s : Numbers) (c : Controller) (a : Message) (seat : ℕ) (d : Digest) 
 
   -- a vote taken in while voting, in an answer that keeps the label and sends what goes out with the vote
   taken_from : {h : Head} {j : ℕ} {digest : Digest} {first : Sent} → Votes c h j digest first → a.head ≡ h → (r : Answer) → r.next.label ≡ c.label
-      → r.next.votes ≡ seated c.votes j digest → OnSent (λ x. r.first ≡ One x) first → ballot_at r.next seat ≡ Cast d → FromVote r
+      → r.next.votes ≡ seated c.votes j digest → OnSent (λ x. r.first ≡ Some x) first → ballot_at r.next seat ≡ Some d → FromVote r
   taken_from (another's {sender} {digest} n e f) u r l w o q =
       ⊎_elim (λ z. by_digest (u ∙ same_vote (sym z.0) (sym l) z.1)) (λ z. was_cast l z)
       (seated_from c.votes sender digest seat d (ap (λ (x : List Seat). (get_or x seat nobody).ballot) (sym w) ∙ q))
   taken_from (ours e) u r l w o q =
-      ⊎_elim (λ z. by_floor (u ∙ ap Floor (sym l)) e z.0 (sym z.1) (o ∙ ap (λ (x : RoundLabel). One (Vote c.own x (own_digest (brief_of c)))) (sym l))) (λ z. was_cast l z)
+      ⊎_elim (λ z. by_floor (u ∙ ap Floor (sym l)) e z.0 (sym z.1) (o ∙ ap (λ (x : RoundLabel). Some (Vote c.own x (own_digest (brief_of c)))) (sym l))) (λ z. was_cast l z)
       (seated_from c.votes c.own (own_digest (brief_of c)) seat d (ap (λ (x : List Seat). (get_or x seat nobody).ballot) (sym w) ∙ q))
 
-  vote_came : {h : Head} {p : Plan} → Leads s c a h p → a.head ≡ h → ballot_at (applied s a c p.effect) seat ≡ Cast d → FromVote (carried_out s c a p)
+  vote_came : {h : Head} {p : Plan} → Leads s c a h p → a.head ≡ h → ballot_at (applied s a c p.effect) seat ≡ Some d → FromVote (carried_out s c a p)
   unfolding applied start_of
   vote_came (refused why e) u q = was_cast refl q
   vote_came (unchanged r) u q = was_cast refl q
@@ -273,30 +272,30 @@ module _ (s : Numbers) (c : Controller) (a : Message) (seat : ℕ) (d : Digest) 
   vote_came restarts u q = no_vote seat q
 
   -- a vote held after a step was held for the same label, or is the message's, or is our own, which this F lets out
-  pub votes_from : ballot_at (stepped s c a).next seat ≡ Cast d → VoteFrom c a (stepped s c a) seat d
+  pub votes_from : ballot_at (stepped s c a).next seat ≡ Some d → VoteFrom c a (stepped s c a) seat d
   votes_from = way (goes s c a)
     where
-      way : {r : Answer} → Goes s c a r → ballot_at r.next seat ≡ Cast d → FromVote r
+      way : {r : Answer} → Goes s c a r → ballot_at r.next seat ≡ Some d → FromVote r
       way (out e) q = was_cast refl q
       way (led e w) q = vote_came w refl q
 
 -- ---- votes are never altered
 
 -- a vote stays when a free seat takes a digest
-seated_keeps : (votes : List Seat) (j : ℕ) (digest : Digest) (seat : ℕ) (d : Digest) → (seat ≡ j → d ≡ digest) → (get_or votes seat nobody).ballot ≡ Cast d
-    → (get_or (seated votes j digest) seat nobody).ballot ≡ Cast d
+seated_keeps : (votes : List Seat) (j : ℕ) (digest : Digest) (seat : ℕ) (d : Digest) → (seat ≡ j → d ≡ digest) → (get_or votes seat nobody).ballot ≡ Some d
+    → (get_or (seated votes j digest) seat nobody).ballot ≡ Some d
 seated_keeps votes j digest seat d f h =
     by_cases (ℕ_discrete seat j)
     (λ e. by_cases (dec_lt j (length votes))
-    (λ l. ap (λ (x : Seat). x.ballot) (ap (λ (n : ℕ). get_or (seated votes j digest) n nobody) e ∙ get_or-set_same votes j (record { ballot = Cast digest }) nobody l) ∙ ap Cast (sym (f e)))
-    (λ l. ap (λ (x : List Seat). (get_or x seat nobody).ballot) (set_out votes j (record { ballot = Cast digest }) (omega arith)) ∙ h))
-    (λ n. ap (λ (x : Seat). x.ballot) (get_or-set_other votes j seat (record { ballot = Cast digest }) nobody n) ∙ h)
+    (λ l. ap (λ (x : Seat). x.ballot) (ap (λ (n : ℕ). get_or (seated votes j digest) n nobody) e ∙ get_or-set_same votes j (record { ballot = Some digest }) nobody l) ∙ ap Some (sym (f e)))
+    (λ l. ap (λ (x : List Seat). (get_or x seat nobody).ballot) (set_out votes j (record { ballot = Some digest }) (omega arith)) ∙ h))
+    (λ n. ap (λ (x : Seat). x.ballot) (get_or-set_other votes j seat (record { ballot = Some digest }) nobody n) ∙ h)
 
-free_same : (b : Ballot) (d digest : Digest) → b ≡ Cast d → Free b digest → d ≡ digest
-free_same Missing d digest h f = not_missing h
-free_same (Cast e) d digest h f = sym (same_digest h) ∙ f
+free_same : (b : Ballot) (d digest : Digest) → b ≡ Some d → Free b digest → d ≡ digest
+free_same None d digest h f = not_missing h
+free_same (Some e) d digest h f = sym (same_digest h) ∙ f
 
-module _ (s : Numbers) (c : Controller) (a : Message) (seat : ℕ) (d : Digest) (q : ballot_at c seat ≡ Cast d) where
+module _ (s : Numbers) (c : Controller) (a : Message) (seat : ℕ) (d : Digest) (q : ballot_at c seat ≡ Some d) where
   -- before our vote our own seat is empty
   module _ (v : Valid s c) where
     unvoted : c.phase ≡ Pending → seat ≡ c.own → d ≡ own_digest (brief_of c)
@@ -304,11 +303,11 @@ module _ (s : Numbers) (c : Controller) (a : Message) (seat : ℕ) (d : Digest) 
         let o = subst (λ (p : Phase). Own p (ballot_at c c.own)) e (phase_own (brief_of c) s.group.m (ballot_at c c.own) c.phase v.phase) in
         never (ap cast (sym (ap (ballot_at c) z) ∙ q)) o
 
-    taken_keeps : {h : Head} {j : ℕ} {digest : Digest} {first : Sent} → Votes c h j digest first → (get_or (seated c.votes j digest) seat nobody).ballot ≡ Cast d
+    taken_keeps : {h : Head} {j : ℕ} {digest : Digest} {first : Sent} → Votes c h j digest first → (get_or (seated c.votes j digest) seat nobody).ballot ≡ Some d
     taken_keeps (another's {sender} {digest} n e f) = seated_keeps c.votes sender digest seat d (λ z. free_same (ballot_at c sender) d digest (ap (ballot_at c) (sym z) ∙ q) f) q
     taken_keeps (ours e) = seated_keeps c.votes c.own (own_digest (brief_of c)) seat d (unvoted e) q
 
-    vote_keeps : {h : Head} {p : Plan} → Leads s c a h p → NoStart h → (applied s a c p.effect).label ≡ c.label → ballot_at (applied s a c p.effect) seat ≡ Cast d
+    vote_keeps : {h : Head} {p : Plan} → Leads s c a h p → NoStart h → (applied s a c p.effect).label ≡ c.label → ballot_at (applied s a c p.effect) seat ≡ Some d
     unfolding applied
     vote_keeps (refused why e) n l = q
     vote_keeps (unchanged r) n l = q
@@ -329,13 +328,13 @@ module _ (s : Numbers) (c : Controller) (a : Message) (seat : ℕ) (d : Digest) 
     vote_keeps (open_still w z) n l = taken_keeps w
     vote_keeps (behind w z b) n l = taken_keeps w
     vote_keeps (lacking w z b g) n l = taken_keeps w
-    vote_keeps (issues w z b g) n l = subst (λ (e : Effect). ballot_at (applied s a c e) seat ≡ Cast d) (sym (same_effect _ _ _)) (taken_keeps w)
+    vote_keeps (issues w z b g) n l = subst (λ (e : Effect). ballot_at (applied s a c e) seat ≡ Some d) (sym (same_effect _ _ _)) (taken_keeps w)
     vote_keeps (restarts {own} {floor}) n l = absurd (n own floor refl)
 
   -- while the label stays, every vote held is held after the step
-  pub votes_kept : NoStart a.head → (stepped s c a).next.label ≡ c.label → ballot_at (stepped s c a).next seat ≡ Cast d
+  pub votes_kept : NoStart a.head → (stepped s c a).next.label ≡ c.label → ballot_at (stepped s c a).next seat ≡ Some d
   votes_kept n = way (goes s c a)
     where
-      way : {r : Answer} → Goes s c a r → r.next.label ≡ c.label → ballot_at r.next seat ≡ Cast d
+      way : {r : Answer} → Goes s c a r → r.next.label ≡ c.label → ballot_at r.next seat ≡ Some d
       way (out e) l = q
       way (led e w) l = vote_keeps (inputs s c a e).valid w n l

@@ -1,11 +1,11 @@
 -- 11 is given only where the message differs from what is held for the same thing. Assumes nothing.
+use Rattle.std.specs.Prelude.{Err}
 use mathlib.Core.Path.{◌≡◌, refl, sym, ap, ◌∙◌}
 use mathlib.Core.Bool.{true, false, true≢false}
 use mathlib.Core.Logic.{⊎_elim}
 use lib.Dec.{eqb}
 use Rattle.units.specs.declared.refusal.Refusal.{Refusal}
 use Rattle.units.specs.declared.refusal.Refusal.TheVariants.{Clash}
-use Rattle.units.specs.declared.refusal.Verdict.TheVariants.{Refused as Denied}
 use Rattle.units.specs.declared.settings.Numbers.{Numbers}
 use Rattle.units.specs.Refusal.{number_of}
 use Rattle.message.specs.declared.head.Head.{Head}
@@ -30,5 +30,5 @@ module _ (s : Numbers) (c : Controller) (a : Message) where
   why_clash (is_clash k) q = k
 
   -- 11 is given only where all is in range, and to a message that differs from what is held for the same thing
-  pub clash_only : (stepped s c a).verdict ≡ Denied Clash → (inputs_fit s c a ≡ true) × Clashed c a a.head
+  pub clash_only : (stepped s c a).verdict ≡ Err Clash → (inputs_fit s c a ≡ true) × Clashed c a a.head
   clash_only q = ⊎_elim (λ z. no_clash refl (sym z.0)) (λ z. (z.0, why_clash z.1 refl)) (refused_for s c a Clash q refl)

@@ -1,8 +1,9 @@
 -- A START IS IN RANGE, AND A STEP KEEPS A CONTROLLER IN RANGE. Without this every promise about controllers in range would be empty. Assumes nothing.
+use Rattle.std.specs.Prelude.{Result, Err, Ok, Some}
 use Prim.Native.Nat.{ℕ, ◌≤◌, ◌<◌}
 use native.Mathlib.Omega.{arith}
 use native.Mathlib.Nat.{zero-add}
-use mathlib.Core.Path.{◌≡◌, refl, sym, ap, subst, ◌∙◌}
+use mathlib.Core.Path.{◌≡◌, refl, sym, ap, subst, subst⁻¹, ◌∙◌}
 use mathlib.Core.Bool.{Bool, true, false, ◌&&◌}
 use mathlib.Core.List.{List}
 use lib.Bits.{bit_or}
@@ -13,8 +14,8 @@ use borrow.Author.Tests.{lt-ltb, le-ltb, ltb-true, leb-true}
 use Rattle.units.specs.declared.estimate.Estimate.{Estimate}
 use Rattle.units.specs.declared.labels.RoundLabel.{RoundLabel}
 use Rattle.units.specs.declared.labels.StateLabel.{StateLabel}
+use Rattle.units.specs.declared.refusal.Refusal.{Refusal}
 use Rattle.units.specs.declared.refusal.Refusal.TheVariants.{Range}
-use Rattle.units.specs.declared.refusal.Verdict.TheVariants.{Taken, Refused as Denied}
 use Rattle.units.specs.declared.settings.Group.{Group}
 use Rattle.units.specs.declared.settings.Numbers.{Numbers}
 use Rattle.units.specs.Labels.{round_fits, floor_fits, state_label_fits}
@@ -29,7 +30,6 @@ use Rattle.floats.specs.Ranges.{estimate_fits, no_estimate, state_fits, targets_
 use Rattle.floats.proofs.Limits.{whole_range, nought_range}
 use Rattle.floats.proofs.Places.{estimate_made, state_made}
 use Rattle.vote.specs.declared.digest.Digest.{Digest}
-use Rattle.vote.specs.declared.votes.Ballot.TheVariants.{Cast}
 use Rattle.vote.specs.declared.votes.Seat.{Seat}
 use Rattle.vote.specs.Digest.{legal}
 use Rattle.vote.specs.Vote.{nobody, seated}
@@ -46,7 +46,7 @@ use Rattle.plan.specs.declared.brief.Phase.{Phase}
 use Rattle.plan.specs.declared.brief.Phase.TheVariants.{Idle, Collecting, Pending, Voting}
 use Rattle.plan.specs.declared.planned.Effect.TheVariants.{Issue}
 use Rattle.plan.specs.declared.planned.Plan.{Plan}
-use Rattle.plan.specs.declared.planned.Sent.{Sent}
+use Rattle.plan.specs.Plan.{Sent}
 use Rattle.plan.specs.Plan.{afterwards}
 use Rattle.plan.specs.Votes.{own_digest}
 use Rattle.controller.specs.declared.state.Controller.{Controller}
@@ -259,12 +259,12 @@ module _ (s : Numbers) (c : Controller) (fit : numbers_fit s ≡ true) (v : Vali
 
   -- the own seat after a vote
   others_seat : (seat : ℕ) (digest : Digest) → (seat ≡ c.own → ⊥) → ballot_at c c.own ≡ (get_or (seated c.votes seat digest) c.own nobody).ballot
-  others_seat seat digest n = ap (λ (x : Seat). x.ballot) (sym (get_or-set_other c.votes seat c.own (record { ballot = Cast digest }) nobody (λ e. n (sym e))))
+  others_seat seat digest n = ap (λ (x : Seat). x.ballot) (sym (get_or-set_other c.votes seat c.own (record { ballot = Some digest }) nobody (λ e. n (sym e))))
 
   own_seat : (digest : Digest) → cast (get_or (seated c.votes c.own digest) c.own nobody).ballot ≡ true
   own_seat digest =
       ap (λ (x : Seat). cast x.ballot)
-      (get_or-set_same c.votes c.own (record { ballot = Cast digest }) nobody (omega (arith, seats_length s.group c.label c.votes v.votes, v.own, (sized s fit).g_high)))
+      (get_or-set_same c.votes c.own (record { ballot = Some digest }) nobody (omega (arith, seats_length s.group c.label c.votes v.votes, v.own, (sized s fit).g_high)))
 
   -- the seat of the group and the legal digest of a vote that is taken in
   pub vote_fits : {h : Head} {seat : ℕ} {digest : Digest} {first : Sent} → Votes c h seat digest first → head_fits s.group h ≡ true → (seat < s.group.g) × (legal m c.label digest ≡ true)
@@ -331,11 +331,24 @@ step_fits s c a h = way (goes s c a)
     way (out e) = h
     way (led {p} e w) = let q = inputs s c a e in valid_made s (applied s a c p.effect) (way_valid s c q.numbers q.valid a w q.message)
 
--- a start that is taken is in range
-pub started_fits : (s : Numbers) (own : ℕ) (floor : RoundLabel) → (started s own floor).verdict ≡ Taken → controller_fits s (started s own floor).controller ≡ true
+-- what a start gives, where it is taken
+pub started_is : (s : Numbers) (own : ℕ) (floor : RoundLabel) (c : Controller) → started s own floor ≡ Ok c → c ≡ start_of s own floor
 unfolding started pick
-started_fits s own floor = tested (numbers_fit s && ltb own s.group.g && floor_fits floor) refl
+started_is s own floor c = told (numbers_fit s && ltb own s.group.g && floor_fits floor)
   where
-    tested : (b : Bool) → (numbers_fit s && ltb own s.group.g && floor_fits floor) ≡ b → pick b Taken (Denied Range) ≡ Taken → controller_fits s (start_of s own floor) ≡ true
+    told : (b : Bool) → ◌≡◌ {A = Result Controller Refusal} (pick b (Ok (start_of s own floor)) (Err Range)) (Ok c) → c ≡ start_of s own floor
+    told true h = sym (ap given h)
+      where
+        given : Result Controller Refusal → Controller
+        given (Ok x) = x
+        given (Err why) = c
+    told false h = absurd_by (cc)
+
+-- a start that is taken is in range
+pub started_fits : (s : Numbers) (own : ℕ) (floor : RoundLabel) (c : Controller) → started s own floor ≡ Ok c → controller_fits s c ≡ true
+unfolding started pick
+started_fits s own floor c t = subst⁻¹ (λ (n : Controller). controller_fits s n ≡ true) (started_is s own floor c t) (tested (numbers_fit s && ltb own s.group.g && floor_fits floor) refl t)
+  where
+    tested : (b : Bool) → (numbers_fit s && ltb own s.group.g && floor_fits floor) ≡ b → ◌≡◌ {A = Result Controller Refusal} (pick b (Ok (start_of s own floor)) (Err Range)) (Ok c) → controller_fits s (start_of s own floor) ≡ true
     tested true e h = let q = and_three (numbers_fit s) (ltb own s.group.g) (floor_fits floor) e in start_fits s own floor q.0 q.1 q.2
     tested false e h = absurd_by (cc)

@@ -1,4 +1,5 @@
 -- 6 IS GIVEN EXACTLY WHERE A CLAUSE FAILS: each test of range holds exactly when every clause of specs/InRange.antt does. Assumes nothing.
+use Rattle.std.specs.Prelude.{Err, None, Ok, Some}
 use Prim.Native.Nat.{ℕ, ◌≤◌, ◌<◌}
 use native.Mathlib.Omega.{arith}
 use mathlib.Core.Path.{◌≡◌, refl, sym, ap, subst, ◌∙◌}
@@ -9,7 +10,6 @@ use borrow.Author.Tests.{eqb-true, eq-eqb, leb-true, le-leb, ltb-true, lt-ltb}
 use Rattle.units.specs.declared.labels.RoundLabel.{RoundLabel}
 use Rattle.units.specs.declared.refusal.Refusal.{Refusal}
 use Rattle.units.specs.declared.refusal.Refusal.TheVariants.{Range}
-use Rattle.units.specs.declared.refusal.Verdict.TheVariants.{Taken, Refused as Denied}
 use Rattle.units.specs.declared.settings.Numbers.{Numbers}
 use Rattle.units.specs.Labels.{floor_fits}
 use Rattle.units.specs.Limits.{runs_top, raw_top}
@@ -22,8 +22,7 @@ use Rattle.units.proofs.Masks.{mask_end_is}
 use Rattle.units.proofs.Picked.{by_yes, by_no}
 use Rattle.floats.proofs.Places.{estimate_x, estimate_variance, estimate_made, state_length, state_run, state_blank, state_made}
 use Rattle.vote.specs.declared.digest.Digest.{Digest}
-use Rattle.vote.specs.declared.votes.Ballot.{Ballot}
-use Rattle.vote.specs.declared.votes.Ballot.TheVariants.{Missing, Cast}
+use Rattle.vote.specs.Digest.{Ballot}
 use Rattle.vote.specs.Digest.{legal}
 use Rattle.vote.specs.Vote.{seat_fits}
 use Rattle.message.specs.declared.head.Head.{Head}
@@ -34,7 +33,7 @@ use Rattle.plan.specs.declared.brief.Phase.{Phase}
 use Rattle.plan.specs.declared.brief.Phase.TheVariants.{Idle, Collecting, Pending, Voting}
 use Rattle.plan.specs.Votes.{own_digest}
 use Rattle.controller.specs.declared.state.Controller.{Controller}
-use Rattle.controller.specs.Start.{started}
+use Rattle.controller.specs.Start.{start_of, started}
 use Rattle.controller.specs.State.{brief_of, ballot_at, cast, controller_fits}
 use Rattle.controller.specs.Step.{inputs_fit, stepped}
 use Rattle.controller_laws.specs.Endings.{refused_only}
@@ -62,34 +61,34 @@ place_fits_lem true raw h k = le-leb raw raw_top (h refl)
 place_fits_lem false raw h k = eq-eqb raw 0 (k refl)
 
 -- ---- a seat
-seat_cast : (inside : Bool) (m : ℕ) (label : RoundLabel) (b : Ballot) (d : Digest) → b ≡ Cast d → seat_fits inside m label b ≡ true → (inside ≡ true) × (legal m label d ≡ true)
+seat_cast : (inside : Bool) (m : ℕ) (label : RoundLabel) (b : Ballot) (d : Digest) → b ≡ Some d → seat_fits inside m label b ≡ true → (inside ≡ true) × (legal m label d ≡ true)
 unfolding seat_fits
 seat_cast inside m label b d e h = let q = subst (λ (x : Ballot). seat_fits inside m label x ≡ true) e h in (and_left inside (legal m label d) q, and_right inside (legal m label d) q)
 
-seat_made : (inside : Bool) (m : ℕ) (label : RoundLabel) (b : Ballot) → ((d : Digest) → b ≡ Cast d → (inside ≡ true) × (legal m label d ≡ true)) → seat_fits inside m label b ≡ true
+seat_made : (inside : Bool) (m : ℕ) (label : RoundLabel) (b : Ballot) → ((d : Digest) → b ≡ Some d → (inside ≡ true) × (legal m label d ≡ true)) → seat_fits inside m label b ≡ true
 unfolding seat_fits
-seat_made inside m label Missing h = refl
-seat_made inside m label (Cast d) h = let q = h d refl in and_both q.0 q.1
+seat_made inside m label None h = refl
+seat_made inside m label (Some d) h = let q = h d refl in and_both q.0 q.1
 
 -- ---- the own vote
-not_cast : (b : Ballot) → cast b ≡ false → b ≡ Missing
-not_cast Missing e = refl
-not_cast (Cast d) e = absurd (true≢false e)
+not_cast : (b : Ballot) → cast b ≡ false → b ≡ None
+not_cast None e = refl
+not_cast (Some d) e = absurd (true≢false e)
 
-is_cast : (b : Ballot) → cast b ≡ true → (d : Digest) × (b ≡ Cast d)
-is_cast Missing e = absurd (true≢false (sym e))
-is_cast (Cast d) e = (d, refl)
+is_cast : (b : Ballot) → cast b ≡ true → (d : Digest) × (b ≡ Some d)
+is_cast None e = absurd (true≢false (sym e))
+is_cast (Some d) e = (d, refl)
 
-own_unvoted : (p : Phase) (b : Ballot) → Own p b → Early p → b ≡ Missing
+own_unvoted : (p : Phase) (b : Ballot) → Own p b → Early p → b ≡ None
 own_unvoted Idle b o e = absurd e
 own_unvoted Collecting b o e = not_cast b o
 own_unvoted Pending b o e = not_cast b o
 own_unvoted Voting b o e = absurd e
 
-own_voted : (p : Phase) (b : Ballot) → Own p b → p ≡ Voting → (d : Digest) × (b ≡ Cast d)
+own_voted : (p : Phase) (b : Ballot) → Own p b → p ≡ Voting → (d : Digest) × (b ≡ Some d)
 own_voted p b o e = is_cast b (subst (λ (x : Phase). Own x b) e o)
 
-own_made : (p : Phase) (b : Ballot) → (Early p → b ≡ Missing) → (p ≡ Voting → (d : Digest) × (b ≡ Cast d)) → Own p b
+own_made : (p : Phase) (b : Ballot) → (Early p → b ≡ None) → (p ≡ Voting → (d : Digest) × (b ≡ Some d)) → Own p b
 own_made Idle b h k = tt
 own_made Collecting b h k = ap cast (h tt)
 own_made Pending b h k = ap cast (h tt)
@@ -173,7 +172,7 @@ module _ (s : Numbers) (c : Controller) (a : Message) where
   other_reason (is_clash k) q = no_range refl q
 
   -- 6 exactly where something is out of range, "before all else", and the controller is as it was
-  pub six_exact : ((stepped s c a).verdict ≡ Denied Range → InputsInRange s c a → ⊥) × ((InputsInRange s c a → ⊥) → stepped s c a ≡ refused_only c Range)
+  pub six_exact : ((stepped s c a).verdict ≡ Err Range → InputsInRange s c a → ⊥) × ((InputsInRange s c a → ⊥) → stepped s c a ≡ refused_only c Range)
   unfolding stepped
   six_exact = (
     λ q r. ⊎_elim (λ z. true≢false (sym (inputs_exact.1 r) ∙ z.1)) (λ z. other_reason z.1 refl) (refused_for s c a Range q refl),
@@ -190,7 +189,7 @@ module _ (s : Numbers) (own : ℕ) (floor : RoundLabel) where
   start_test h = let q = and_three (numbers_fit s) (ltb own s.group.g) (floor_fits floor) h in record { settings = q.0; number = ltb-true _ _ q.1; low = leb-true _ _ q.2 }
 
   -- a start is taken exactly where settings, number and floor are in range, and is 6 otherwise
-  pub started_exact : (StartInRange s own floor → (started s own floor).verdict ≡ Taken) × ((StartInRange s own floor → ⊥) → (started s own floor).verdict ≡ Denied Range)
+  pub started_exact : (StartInRange s own floor → started s own floor ≡ Ok (start_of s own floor)) × ((StartInRange s own floor → ⊥) → started s own floor ≡ Err Range)
   unfolding started
   started_exact = (
     λ q. sym (by_yes _ (and_both (and_both q.settings (lt-ltb _ _ q.number)) (le-leb _ _ q.low)) refl),

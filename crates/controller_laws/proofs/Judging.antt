@@ -1,4 +1,5 @@
 -- A VOTE THAT IS TAKEN IN WHILE VOTING IS JUDGED, and with what result: exactly by what the votes are decided for. A good D is taken. Assumes nothing.
+use Rattle.std.specs.Prelude.{Err, None, Ok, Some}
 use Prim.Native.Nat.{ℕ, ◌<◌}
 use native.Mathlib.Omega.{arith}
 use mathlib.Core.Path.{◌≡◌, refl, sym, ap, subst, ◌∙◌}
@@ -15,9 +16,7 @@ use Rattle.units.specs.Labels.{before, round_fits}
 use Rattle.units.proofs.Every.{absurd_by, and_both, and_three}
 use Rattle.units.proofs.Picked.{by_yes}
 use Rattle.vote.specs.declared.digest.Digest.{Digest}
-use Rattle.vote.specs.declared.judge.Decision.{Decision}
-use Rattle.vote.specs.declared.judge.Decision.TheVariants.{Undecided, Decided, Refused as Unjudged}
-use Rattle.vote.specs.declared.votes.Ballot.TheVariants.{Cast}
+use Rattle.vote.specs.Digest.{Decision}
 use Rattle.vote.specs.declared.votes.Seat.{Seat}
 use Rattle.vote.specs.Digest.{legal}
 use Rattle.vote.specs.Vote.{votes_fit, Decides, Answers, nobody, seated}
@@ -31,8 +30,7 @@ use Rattle.plan.specs.declared.brief.Phase.TheVariants.{Idle, Collecting, Pendin
 use Rattle.plan.specs.declared.planned.Effect.{Effect}
 use Rattle.plan.specs.declared.planned.Effect.TheVariants.{Count, Issue}
 use Rattle.plan.specs.declared.planned.Plan.{Plan}
-use Rattle.plan.specs.declared.planned.Sent.{Sent}
-use Rattle.plan.specs.declared.planned.Sent.TheVariants.{Nothing, One}
+use Rattle.plan.specs.Plan.{Sent}
 use Rattle.plan.specs.Plan.{does, afterwards}
 use Rattle.plan.specs.Votes.{chosen_plan, judged, possessed}
 use Rattle.controller.specs.declared.state.Controller.{Controller}
@@ -63,8 +61,8 @@ never b p q = absurd (true≢false (sym p ∙ q))
 -- S goes out behind what goes out with the vote
 issue_sent : (s : Numbers) (c : Controller) (a : Message) (e : Effect) (h : Head) (first : Sent) → IsSent (carried_out s c a (afterwards e h first)) h
 unfolding afterwards
-issue_sent s c a e h Nothing = inl refl
-issue_sent s c a e h (One one) = inr refl
+issue_sent s c a e h None = inl refl
+issue_sent s c a e h (Some one) = inr refl
 
 issue_next : (s : Numbers) (c : Controller) (a : Message) (seat : ℕ) (digest d : Digest) (h : Head) (first : Sent)
     → (carried_out s c a (afterwards (Issue seat digest d) h first)).next ≡ issuing s (counted c seat digest Idle) d
@@ -73,8 +71,8 @@ issue_next s c a seat digest d h first = ap (applied s a c) (same_effect (Issue 
 
 issue_verdict : (s : Numbers) (c : Controller) (a : Message) (e : Effect) (h : Head) (first : Sent) → (carried_out s c a (afterwards e h first)).verdict ≡ (does e).verdict
 unfolding afterwards
-issue_verdict s c a e h Nothing = refl
-issue_verdict s c a e h (One one) = refl
+issue_verdict s c a e h None = refl
+issue_verdict s c a e h (Some one) = refl
 
 module _ (s : Numbers) (c : Controller) (a : Message) (i : inputs_fit s c a ≡ true) where
   module _ {seat : ℕ} {digest : Digest} {first : Sent} (w : Votes c a.head seat digest first) where
@@ -93,20 +91,20 @@ module _ (s : Numbers) (c : Controller) (a : Message) (i : inputs_fit s c a ≡ 
 
     judged_by : (x : Decision) → decision_with s c seat digest ≡ x → Answers v x → Judged s c seat digest first (stepped s c a)
     unfolding applied
-    judged_by (Unjudged why) e q = never (votes_fit v) votes_fit_lem q.1
-    judged_by Undecided e q =
+    judged_by (Err why) e q = never (votes_fit v) votes_fit_lem q.1
+    judged_by (Ok None) e q =
         record {
           issued = λ d p h. absurd (q.1 d p);
           lacked = λ d p h. absurd (q.1 d p);
           undecided = λ n. sym (goes_one s c a (led i (open_still w (λ d z. never_decided (sym e ∙ z)))));
         }
       where
-        never_decided : {d : Digest} → Undecided ≡ Decided d → ⊥
+        never_decided : {d : Digest} → ◌≡◌ {A = Decision} (Ok None) (Ok (Some d)) → ⊥
         never_decided z = absurd_by (cc)
-    judged_by (Decided chosen) e q = record { issued = went; lacked = lacks; undecided = λ n. absurd (n chosen q.1) }
+    judged_by (Ok (Some chosen)) e q = record { issued = went; lacked = lacks; undecided = λ n. absurd (n chosen q.1) }
       where
-        it : (d : Digest) → Decides v d → decision_with s c seat digest ≡ Decided d
-        it d p = e ∙ ap Decided (decided_one v votes_fit_lem chosen d q.1 p)
+        it : (d : Digest) → Decides v d → decision_with s c seat digest ≡ Ok (Some d)
+        it d p = e ∙ ap (λ d. Ok (Some d)) (decided_one v votes_fit_lem chosen d q.1 p)
 
         went : (d : Digest) → Decides v d → possessed (brief_of c) d ≡ true → IssuedFor s c seat digest d (stepped s c a)
         went d p h =
@@ -134,24 +132,24 @@ module _ (s : Numbers) (c : Controller) (a : Message) (i : inputs_fit s c a ≡ 
 
   judged_votes : (seat : ℕ) (digest : Digest) (first : Sent) (x : Decision) → (applied s a c (judged (brief_of c) seat digest first x).effect).votes ≡ seated c.votes seat digest
   unfolding judged applied
-  judged_votes seat digest first (Unjudged why) = refl
-  judged_votes seat digest first Undecided = refl
-  judged_votes seat digest first (Decided d) = chosen_votes seat digest first d
+  judged_votes seat digest first (Err why) = refl
+  judged_votes seat digest first (Ok None) = refl
+  judged_votes seat digest first (Ok (Some d)) = chosen_votes seat digest first d
 
   taken_votes : (seat : ℕ) (digest : Digest) (p : Phase) → (applied s a c (vote_plan s c (does (Count seat digest p))).effect).votes ≡ seated c.votes seat digest
   unfolding judged_plan judged_in applied
   taken_votes seat digest Idle = refl
   taken_votes seat digest Collecting = refl
   taken_votes seat digest Pending = refl
-  taken_votes seat digest Voting = judged_votes seat digest Nothing (decision_with s c seat digest)
+  taken_votes seat digest Voting = judged_votes seat digest None (decision_with s c seat digest)
 
   -- D "kept for its sender": of the current label, from another, not idle, into a free seat; all in range, it is in its seat after the step
   pub digest_taken : (sender : ℕ) (digest : Digest) → a.head ≡ Vote sender c.label digest → (sender ≡ c.own → ⊥) → Busy c.phase → Free (ballot_at c sender) digest
-      → ballot_at (stepped s c a).next sender ≡ Cast digest
+      → ballot_at (stepped s c a).next sender ≡ Some digest
   unfolding stepped head_fits
   digest_taken sender digest e ne b f =
       ap (λ (r : Answer). ballot_at r.next sender) (sym taken) ∙ ap (λ (x : List Seat). (get_or x sender nobody).ballot) (taken_votes sender digest c.phase)
-      ∙ ap (λ (x : Seat). x.ballot) (get_or-set_same c.votes sender (record { ballot = Cast digest }) nobody small)
+      ∙ ap (λ (x : Seat). x.ballot) (get_or-set_same c.votes sender (record { ballot = Some digest }) nobody small)
     where
       plan : vote_plan s c (does (Count sender digest c.phase)) ≡ planned s c a a.head
       plan = free_vote s c a sender digest ne b f refl ∙ ap (planned s c a) (sym e)

@@ -1,4 +1,5 @@
 -- THE WAYS EXCLUDE EACH OTHER: a message leads to one plan, and a step has one answer. Assumes nothing.
+use Rattle.std.specs.Prelude.{Err, None, Ok, Some}
 use Prim.Native.Nat.{ℕ, ◌<◌}
 use native.Mathlib.Nat.{le_refl, le_of_lt}
 use native.Mathlib.Omega.{arith}
@@ -11,16 +12,13 @@ use Rattle.units.specs.declared.labels.RoundLabel.{RoundLabel}
 use Rattle.units.specs.declared.labels.StateLabel.{StateLabel}
 use Rattle.units.specs.declared.refusal.Refusal.{Refusal}
 use Rattle.units.specs.declared.refusal.Refusal.TheVariants.{Own, Late, Closed, Other, Clash}
-use Rattle.units.specs.declared.refusal.Verdict.TheVariants.{Taken}
 use Rattle.units.specs.declared.settings.Numbers.{Numbers}
 use Rattle.units.specs.Pick.{pick}
 use Rattle.units.proofs.Picked.{by_yes, by_no, along}
 use Rattle.floats.specs.Ranges.{same_state}
 use Rattle.vote.specs.declared.digest.Digest.{Digest}
-use Rattle.vote.specs.declared.judge.Decision.{Decision}
-use Rattle.vote.specs.declared.judge.Decision.TheVariants.{Undecided, Decided, Refused as Unjudged}
-use Rattle.vote.specs.declared.votes.Ballot.{Ballot}
-use Rattle.vote.specs.declared.votes.Ballot.TheVariants.{Missing, Cast}
+use Rattle.vote.specs.Digest.{Decision}
+use Rattle.vote.specs.Digest.{Ballot}
 use Rattle.vote.specs.Digest.{same}
 use Rattle.vote.proofs.Order.{same_true, same_refl}
 use Rattle.message.specs.declared.head.Head.{Head}
@@ -31,8 +29,7 @@ use Rattle.plan.specs.declared.brief.Phase.{Phase}
 use Rattle.plan.specs.declared.brief.Phase.TheVariants.{Idle, Collecting, Pending, Voting}
 use Rattle.plan.specs.declared.planned.Effect.TheVariants.{Keep, Adopt, Count}
 use Rattle.plan.specs.declared.planned.Plan.{Plan}
-use Rattle.plan.specs.declared.planned.Sent.{Sent}
-use Rattle.plan.specs.declared.planned.Sent.TheVariants.{Nothing}
+use Rattle.plan.specs.Plan.{Sent}
 use Rattle.plan.specs.Plan.{refuse, does}
 use Rattle.plan.specs.Readings
 use Rattle.plan.specs.Readings.{same_round, plan_reading, answered, in_query, in_reply}
@@ -198,8 +195,8 @@ module _ (s : Numbers) (c : Controller) (a : Message) where
 
     seat_free : (phase : Phase) (x : Ballot) → Free x digest → does (Count sender digest phase) ≡ in_seat sender digest phase x
     unfolding in_seat
-    seat_free phase Missing f = refl
-    seat_free phase (Cast e) f = by_yes _ (ap (λ (x : Digest). same x digest) f ∙ same_refl digest) refl
+    seat_free phase None f = refl
+    seat_free phase (Some e) f = by_yes _ (ap (λ (x : Digest). same x digest) f ∙ same_refl digest) refl
 
     early_stands : (p : Phase) → Early p → does (Count sender digest p) ≡ vote_plan s c (does (Count sender digest p))
     unfolding judged_plan judged_in
@@ -208,7 +205,7 @@ module _ (s : Numbers) (c : Controller) (a : Message) where
     early_stands Pending k = refl
     early_stands Voting k = absurd k
 
-    voting_judges : (p : Phase) → p ≡ Voting → judged b sender digest Nothing (decision_with s c sender digest) ≡ vote_plan s c (does (Count sender digest p))
+    voting_judges : (p : Phase) → p ≡ Voting → judged b sender digest None (decision_with s c sender digest) ≡ vote_plan s c (does (Count sender digest p))
     unfolding judged_plan judged_in
     voting_judges p e = along (λ (x : Phase). vote_plan s c (does (Count sender digest x))) e refl
 
@@ -300,14 +297,14 @@ module _ (s : Numbers) (c : Controller) (a : Message) where
   votes_plan (another's {sender} {digest} ne e f) = free_vote sender digest ne (rw e tt) f (voting_judges sender digest c.phase e)
   votes_plan (ours e) = this_label c (vote_plan s c) _ (along (λ (x : Phase). vote_plan s c (in_floor b x)) e refl)
 
-  open_plan : (seat : ℕ) (digest : Digest) (first : Sent) (x : Decision) → ((chosen : Digest) → x ≡ Decided chosen → ⊥)
-      → record { effect = Count seat digest Voting; first = first; second = Nothing; verdict = Taken } ≡ judged b seat digest first x
+  open_plan : (seat : ℕ) (digest : Digest) (first : Sent) (x : Decision) → ((chosen : Digest) → x ≡ Ok (Some chosen) → ⊥)
+      → record { effect = Count seat digest Voting; first = first; second = None; verdict = Ok tt } ≡ judged b seat digest first x
   unfolding judged
-  open_plan seat digest first (Unjudged why) n = refl
-  open_plan seat digest first Undecided n = refl
-  open_plan seat digest first (Decided chosen) n = absurd (n chosen refl)
+  open_plan seat digest first (Err why) n = refl
+  open_plan seat digest first (Ok None) n = refl
+  open_plan seat digest first (Ok (Some chosen)) n = absurd (n chosen refl)
 
-  chosen_plan_lem : {h : Head} {seat : ℕ} {digest chosen : Digest} {first : Sent} {r : Plan} → Votes c h seat digest first → decision_with s c seat digest ≡ Decided chosen
+  chosen_plan_lem : {h : Head} {seat : ℕ} {digest chosen : Digest} {first : Sent} {r : Plan} → Votes c h seat digest first → decision_with s c seat digest ≡ Ok (Some chosen)
       → r ≡ chosen_plan b seat digest first chosen → r ≡ planned s c a h
   unfolding judged
   chosen_plan_lem {seat = seat} {digest = digest} {first = first} w d h = along (judged b seat digest first) d h ∙ votes_plan w

@@ -1,4 +1,5 @@
 -- What sent a message, where an issued state came from, and what B does to a running controller. Assumes nothing.
+use Rattle.std.specs.Prelude.{None, Ok, Some}
 use Prim.Native.Nat.{ℕ}
 use mathlib.Core.Path.{◌≡◌, refl, sym, ap, subst}
 use mathlib.Core.Bool.{true}
@@ -8,7 +9,6 @@ use Rattle.units.specs.declared.labels.RoundLabel.{RoundLabel}
 use Rattle.units.specs.declared.settings.Numbers.{Numbers}
 use Rattle.units.specs.Labels.{before}
 use Rattle.vote.specs.declared.digest.Digest.{Digest}
-use Rattle.vote.specs.declared.judge.Decision.TheVariants.{Decided}
 use Rattle.message.specs.declared.head.Head.{Head}
 use Rattle.message.specs.declared.head.Head.TheVariants.{Setpoints, Start}
 use Rattle.message.specs.declared.value.Message.{Message}
@@ -17,8 +17,7 @@ use Rattle.message.specs.View.{on_some, as_reply, as_update, as_issue}
 use Rattle.plan.specs.declared.brief.Phase.TheVariants.{Idle}
 use Rattle.plan.specs.declared.planned.Effect.TheVariants.{Issue}
 use Rattle.plan.specs.declared.planned.Plan.{Plan}
-use Rattle.plan.specs.declared.planned.Sent.{Sent}
-use Rattle.plan.specs.declared.planned.Sent.TheVariants.{Nothing}
+use Rattle.plan.specs.Plan.{Sent}
 use Rattle.plan.specs.Plan.{afterwards}
 use Rattle.plan.specs.Votes.{own_digest, possessed}
 use Rattle.controller.specs.declared.state.Controller.{Controller}
@@ -48,12 +47,12 @@ module _ (s : Numbers) (c : Controller) (a : Message) where
   with_vote n (another's k e f) = tt
   with_vote n (ours e) = vote refl e
 
-  settled : {h : Head} {seat : ℕ} {digest chosen : Digest} {first : Sent} → Votes c h seat digest first → decision_with s c seat digest ≡ Decided chosen → before chosen.state c.label ≡ true
+  settled : {h : Head} {seat : ℕ} {digest chosen : Digest} {first : Sent} → Votes c h seat digest first → decision_with s c seat digest ≡ Ok (Some chosen) → before chosen.state c.label ≡ true
       → possessed (brief_of c) chosen ≡ true → RoundIssued s c h chosen (issuing s (counted c seat digest Idle) chosen)
   settled {seat = seat} {digest = digest} {first = first} w d b p =
       record { seat = seat; digest = digest; first = first; vote = w; chose = d; older = b; here = p; next = refl }
 
-  issue_by : {h : Head} {seat : ℕ} {digest chosen : Digest} {first : Sent} → Votes c h seat digest first → decision_with s c seat digest ≡ Decided chosen → before chosen.state c.label ≡ true
+  issue_by : {h : Head} {seat : ℕ} {digest chosen : Digest} {first : Sent} → Votes c h seat digest first → decision_with s c seat digest ≡ Ok (Some chosen) → before chosen.state c.label ≡ true
       → possessed (brief_of c) chosen ≡ true → AllBy h (afterwards (Issue seat digest chosen) (Setpoints c.own c.label chosen) first)
   unfolding afterwards applied
   issue_by (another's {sender} {digest} n e f) d b p = (setpoints (settled (another's {sender = sender} {digest = digest} n e f) d b p), tt)
@@ -88,11 +87,11 @@ module _ (s : Numbers) (c : Controller) (a : Message) where
   sent_by_lem = way (goes s c a)
     where
       way : {r : Answer} → Goes s c a r → (head : Head) → IsSent r head → SentBy s c a.head r.next head
-      way (out e) = one_of _ Nothing Nothing tt tt
+      way (out e) = one_of _ None None tt tt
       way (led {p} e w) = let k = way_by w in one_of _ p.first p.second k.0 k.1
 
   -- ---- where the state comes from
-  issue_state : {h : Head} {seat : ℕ} {digest chosen : Digest} {first : Sent} → a.head ≡ h → Votes c h seat digest first → decision_with s c seat digest ≡ Decided chosen
+  issue_state : {h : Head} {seat : ℕ} {digest chosen : Digest} {first : Sent} → a.head ≡ h → Votes c h seat digest first → decision_with s c seat digest ≡ Ok (Some chosen)
       → before chosen.state c.label ≡ true → possessed (brief_of c) chosen ≡ true
       → StateBy s c a (carried_out s c a (afterwards (Issue seat digest chosen) (Setpoints c.own c.label chosen) first))
   unfolding afterwards applied

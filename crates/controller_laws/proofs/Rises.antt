@@ -1,4 +1,5 @@
 -- Within one life the labels never fall and the own number stays; a controller that is not idle, or in an early phase, was so before or has a new label. Assumes nothing.
+use Rattle.std.specs.Prelude.{None, Some}
 use Prim.Native.Nat.{ℕ, ◌≤◌, ◌<◌}
 use native.Mathlib.Nat.{le_refl, le_of_lt}
 use native.Mathlib.Omega.{arith}
@@ -16,8 +17,7 @@ use Rattle.message.specs.declared.head.Head.{Head}
 use Rattle.message.specs.declared.value.Message.{Message}
 use Rattle.plan.specs.declared.planned.Effect.{Effect}
 use Rattle.plan.specs.declared.planned.Plan.{Plan}
-use Rattle.plan.specs.declared.planned.Sent.{Sent}
-use Rattle.plan.specs.declared.planned.Sent.TheVariants.{Nothing, One}
+use Rattle.plan.specs.Plan.{Sent}
 use Rattle.plan.specs.Plan.{afterwards}
 use Rattle.plan.specs.Votes.{possessed}
 use Rattle.controller.specs.declared.state.Controller.{Controller}
@@ -35,8 +35,8 @@ use Rattle.controller_laws.proofs.Ways.{goes}
 
 pub same_effect : (e : Effect) (h : Head) (first : Sent) → (afterwards e h first).effect ≡ e
 unfolding afterwards
-same_effect e h Nothing = refl
-same_effect e h (One one) = refl
+same_effect e h None = refl
+same_effect e h (Some one) = refl
 
 -- what is issued was computed from the state that is here, which lies before the round
 issue_base : (c : Controller) (chosen : Digest) → before chosen.state c.label ≡ true → possessed (brief_of c) chosen ≡ true → c.state.0 < c.label.0

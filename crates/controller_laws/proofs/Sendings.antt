@@ -1,4 +1,5 @@
 -- EVERY MESSAGE SENT IS IN RANGE, so that it can be written; and nothing is sent but what document 01 names. Assumes nothing.
+use Rattle.std.specs.Prelude.{None, Ok, Some}
 use Prim.Native.Nat.{ℕ, ◌-◌}
 use native.Mathlib.Omega.{arith}
 use mathlib.Core.Path.{◌≡◌, refl, subst, ◌∙◌}
@@ -6,7 +7,6 @@ use mathlib.Core.Bool.{Bool, true, ◌&&◌}
 use mathlib.Core.Logic.{◌⊎◌, ⊎_elim}
 use lib.Bits.{bit_and, and_le_r}
 use borrow.Author.Tests.{lt-ltb, le-leb}
-use Rattle.units.specs.declared.refusal.Verdict.TheVariants.{Taken}
 use Rattle.units.specs.declared.settings.Group.{Group}
 use Rattle.units.specs.declared.settings.Numbers.{Numbers}
 use Rattle.units.specs.Labels.{round_fits}
@@ -18,7 +18,6 @@ use Rattle.units.proofs.Every.{absurd_by, and_both}
 use Rattle.units.proofs.InRange.{group_fits_lem}
 use Rattle.floats.specs.Ranges.{state_fits, targets_fit}
 use Rattle.vote.specs.declared.digest.Digest.{Digest}
-use Rattle.vote.specs.declared.judge.Decision.TheVariants.{Decided}
 use Rattle.vote.proofs.Decided.{decided_legal}
 use Rattle.vote.proofs.InRange.{legal_range}
 use Rattle.filter.specs.Compute.{set_points}
@@ -34,8 +33,7 @@ use Rattle.message.proofs.Plain.{none_fit, unused_estimates, unused_targets, pla
 use Rattle.plan.specs.declared.brief.Phase.TheVariants.{Idle}
 use Rattle.plan.specs.declared.planned.Effect.TheVariants.{Issue}
 use Rattle.plan.specs.declared.planned.Plan.{Plan}
-use Rattle.plan.specs.declared.planned.Sent.{Sent}
-use Rattle.plan.specs.declared.planned.Sent.TheVariants.{Nothing, One}
+use Rattle.plan.specs.Plan.{Sent}
 use Rattle.plan.specs.Plan.{afterwards}
 use Rattle.plan.specs.Timers.{missing_runs}
 use Rattle.plan.specs.Votes.{own_digest}
@@ -119,7 +117,7 @@ module _ (s : Numbers) (c : Controller) (fit : numbers_fit s ≡ true) (v : Vali
   unfolding sent_message head_fits carried
   vote_ready n b = plain_fits s.group (Vote c.own c.label (own_digest (brief_of c))) (group_fits_lem s fit) (and_both (sender _ (round b)) (own_legal s c fit v b)) refl
 
-  setpoints_ready : (seat : ℕ) (digest chosen : Digest) → Busy c.phase → decision_with s c seat digest ≡ Decided chosen
+  setpoints_ready : (seat : ℕ) (digest chosen : Digest) → Busy c.phase → decision_with s c seat digest ≡ Ok (Some chosen)
       → Ready (issuing s (counted c seat digest Idle) chosen) (Setpoints c.own c.label chosen)
   unfolding sent_message head_fits carried plain
   setpoints_ready seat digest chosen b d =
@@ -138,7 +136,7 @@ module _ (s : Numbers) (c : Controller) (fit : numbers_fit s ≡ true) (v : Vali
     with_vote n (another's k e f) = tt
     with_vote n (ours e) = vote_ready n (rw e tt)
 
-    issue_ready : {h : Head} {seat : ℕ} {digest : Digest} {first : Sent} (chosen : Digest) → Votes c h seat digest first → decision_with s c seat digest ≡ Decided chosen
+    issue_ready : {h : Head} {seat : ℕ} {digest : Digest} {first : Sent} (chosen : Digest) → Votes c h seat digest first → decision_with s c seat digest ≡ Ok (Some chosen)
         → AllReady (afterwards (Issue seat digest chosen) (Setpoints c.own c.label chosen) first)
     unfolding afterwards applied
     issue_ready chosen (another's {sender} {digest} n e f) d = (setpoints_ready sender digest chosen (rw e tt) d, tt)
@@ -168,11 +166,11 @@ module _ (s : Numbers) (c : Controller) (fit : numbers_fit s ≡ true) (v : Vali
     way_ready (issues {chosen = chosen} w d b n) = issue_ready chosen w d
     way_ready restarts = (tt, tt)
 
-pub none_sent : {A : Type 0} {head : Head} → Nothing ≡ One head → A
+pub none_sent : {A : Type 0} {head : Head} → ◌≡◌ {A = Sent} None (Some head) → A
 none_sent q = absurd_by (cc)
 
 -- what holds of all that an answer sends holds of one of its messages
-pub one_of : (P : Head → Type 0) (x y : Sent) → OnSent P x → OnSent P y → (head : Head) → (x ≡ One head) ⊎ (y ≡ One head) → P head
+pub one_of : (P : Head → Type 0) (x y : Sent) → OnSent P x → OnSent P y → (head : Head) → (x ≡ Some head) ⊎ (y ≡ Some head) → P head
 one_of P x y p q head w = ⊎_elim (λ e. subst (OnSent P) e p) (λ e. subst (OnSent P) e q) w
 
 module _ (s : Numbers) (c : Controller) (a : Message) where
@@ -181,7 +179,7 @@ module _ (s : Numbers) (c : Controller) (a : Message) where
   sent_fits = way (goes s c a)
     where
       way : {r : Answer} → Goes s c a r → (head : Head) → IsSent r head → message_fits s.group (sent_message s r.next head) ≡ true
-      way (out e) = one_of _ Nothing Nothing tt tt
+      way (out e) = one_of _ None None tt tt
       way (led {p} e w) = let q = inputs s c a e in let k = way_ready s c q.numbers q.valid a w in one_of _ p.first p.second k.0 k.1
 
   -- ---- what may be sent
@@ -192,7 +190,7 @@ module _ (s : Numbers) (c : Controller) (a : Message) where
   with_vote_may (another's k e f) = tt
   with_vote_may (ours e) = vote e
 
-  issue_may : {h : Head} {seat : ℕ} {digest : Digest} {first : Sent} (chosen : Digest) → Votes c h seat digest first → decision_with s c seat digest ≡ Decided chosen
+  issue_may : {h : Head} {seat : ℕ} {digest : Digest} {first : Sent} (chosen : Digest) → Votes c h seat digest first → decision_with s c seat digest ≡ Ok (Some chosen)
       → AllMay h (afterwards (Issue seat digest chosen) (Setpoints c.own c.label chosen) first)
   unfolding afterwards
   issue_may chosen (another's {sender} {digest} n e f) d = (setpoints (another's {sender = sender} {digest = digest} n e f) d, tt)
@@ -226,11 +224,11 @@ module _ (s : Numbers) (c : Controller) (a : Message) where
   sent_few = way (goes s c a)
     where
       way : {r : Answer} → Goes s c a r → (head : Head) → IsSent r head → MaySend s c a.head head
-      way (out e) = one_of _ Nothing Nothing tt tt
+      way (out e) = one_of _ None None tt tt
       way (led {p} e w) = let k = way_may w in one_of _ p.first p.second k.0 k.1
 
   -- what is sent stands in `first`, then `second`, with no gap
-  in_order : {h : Head} {p : Plan} → Leads s c a h p → p.first ≡ Nothing → p.second ≡ Nothing
+  in_order : {h : Head} {p : Plan} → Leads s c a h p → p.first ≡ None → p.second ≡ None
   unfolding afterwards
   in_order (refused why e) q = refl
   in_order (unchanged r) q = refl
@@ -251,19 +249,19 @@ module _ (s : Numbers) (c : Controller) (a : Message) where
   in_order (open_still w d) q = refl
   in_order (behind w d b) q = refl
   in_order (lacking w d b n) q = refl
-  in_order (issues {first = Nothing} w d b n) q = refl
-  in_order (issues {first = One one} w d b n) q = absurd_by (cc)
+  in_order (issues {first = None} w d b n) q = refl
+  in_order (issues {first = Some one} w d b n) q = absurd_by (cc)
   in_order restarts q = refl
 
-  pub sent_in_order : (stepped s c a).first ≡ Nothing → (stepped s c a).second ≡ Nothing
+  pub sent_in_order : (stepped s c a).first ≡ None → (stepped s c a).second ≡ None
   sent_in_order = way (goes s c a)
     where
-      way : {r : Answer} → Goes s c a r → r.first ≡ Nothing → r.second ≡ Nothing
+      way : {r : Answer} → Goes s c a r → r.first ≡ None → r.second ≡ None
       way (out e) q = refl
       way (led e w) q = in_order w q
 
   -- a second message goes out only where the message at hand was taken
-  two_led : {h : Head} {p : Plan} → Leads s c a h p → (head : Head) → p.second ≡ One head → p.verdict ≡ Taken
+  two_led : {h : Head} {p : Plan} → Leads s c a h p → (head : Head) → p.second ≡ Some head → p.verdict ≡ Ok tt
   unfolding afterwards
   two_led (refused why e) head q = none_sent q
   two_led (unchanged r) head q = none_sent q
@@ -284,14 +282,14 @@ module _ (s : Numbers) (c : Controller) (a : Message) where
   two_led (open_still w d) head q = none_sent q
   two_led (behind w d b) head q = none_sent q
   two_led (lacking w d b n) head q = none_sent q
-  two_led (issues {first = Nothing} w d b n) head q = none_sent q
-  two_led (issues {first = One one} w d b n) head q = refl
+  two_led (issues {first = None} w d b n) head q = none_sent q
+  two_led (issues {first = Some one} w d b n) head q = refl
   two_led restarts head q = none_sent q
 
-  pub two_taken : (head : Head) → (stepped s c a).second ≡ One head → (stepped s c a).verdict ≡ Taken
+  pub two_taken : (head : Head) → (stepped s c a).second ≡ Some head → (stepped s c a).verdict ≡ Ok tt
   two_taken = way (goes s c a)
     where
-      way : {r : Answer} → Goes s c a r → (head : Head) → r.second ≡ One head → r.verdict ≡ Taken
+      way : {r : Answer} → Goes s c a r → (head : Head) → r.second ≡ Some head → r.verdict ≡ Ok tt
       way (out e) head q = none_sent q
       way (led e w) head q = two_led w head q
 
@@ -340,5 +338,5 @@ module _ (s : Numbers) (c : Controller) (a : Message) where
   vote_once = way (goes s c a)
     where
       way : {r : Answer} → Goes s c a r → (head : Head) → IsSent r head → IsVote head → Voted c a.head r.next
-      way (out e) = one_of _ Nothing Nothing tt tt
+      way (out e) = one_of _ None None tt tt
       way (led {p} e w) = let k = way_once w in one_of _ p.first p.second k.0 k.1

@@ -1,4 +1,5 @@
 -- Every step goes one of the ways of specs/Ways.antt. Assumes nothing.
+use Rattle.std.specs.Prelude.{Err, None, Ok, Some}
 use Prim.Native.Nat.{ℕ, ◌<◌}
 use mathlib.Core.Path.{◌≡◌, refl, sym, ap, subst, ◌∙◌}
 use mathlib.Core.Bool.{Bool, true, false, not, true≢false}
@@ -18,10 +19,8 @@ use Rattle.units.specs.Pick.{pick}
 use Rattle.floats.specs.Ranges.{same_state}
 use Rattle.units.proofs.Every.{absurd_by}
 use Rattle.vote.specs.declared.digest.Digest.{Digest}
-use Rattle.vote.specs.declared.judge.Decision.{Decision}
-use Rattle.vote.specs.declared.judge.Decision.TheVariants.{Undecided, Decided, Refused as Unjudged}
-use Rattle.vote.specs.declared.votes.Ballot.{Ballot}
-use Rattle.vote.specs.declared.votes.Ballot.TheVariants.{Missing, Cast}
+use Rattle.vote.specs.Digest.{Decision}
+use Rattle.vote.specs.Digest.{Ballot}
 use Rattle.vote.specs.Digest.{same}
 use Rattle.vote.proofs.Order.{same_true, same_refl}
 use Rattle.message.specs.declared.head.Head.{Head}
@@ -31,7 +30,7 @@ use Rattle.plan.specs.declared.brief.Phase.{Phase}
 use Rattle.plan.specs.declared.brief.Phase.TheVariants.{Idle, Collecting, Pending, Voting}
 use Rattle.plan.specs.declared.planned.Effect.TheVariants.{Keep, Adopt, Count}
 use Rattle.plan.specs.declared.planned.Plan.{Plan}
-use Rattle.plan.specs.declared.planned.Sent.{Sent}
+use Rattle.plan.specs.Plan.{Sent}
 use Rattle.plan.specs.Plan.{refuse, does, sends}
 use Rattle.plan.specs.Readings
 use Rattle.plan.specs.Readings.{same_round, plan_reading, answered, in_query, in_reply}
@@ -211,7 +210,7 @@ module _ (s : Numbers) (c : Controller) (a : Message) where
 
   -- ---- D, F
   module _ {h : Head} {seat : ℕ} {digest : Digest} {first : Sent} (v : Votes c h seat digest first) where
-    chosen_way : (chosen : Digest) → decision_with s c seat digest ≡ Decided chosen → To h (chosen_plan (brief_of c) seat digest first chosen)
+    chosen_way : (chosen : Digest) → decision_with s c seat digest ≡ Ok (Some chosen) → To h (chosen_plan (brief_of c) seat digest first chosen)
     unfolding chosen_plan
     chosen_way chosen e =
         on_pick (To h) (not (before chosen.state c.label)) (λ b. behind v e (not-true _ b))
@@ -219,9 +218,9 @@ module _ (s : Numbers) (c : Controller) (a : Message) where
 
     judged_way : (d : Decision) → decision_with s c seat digest ≡ d → To h (judged (brief_of c) seat digest first d)
     unfolding judged
-    judged_way (Unjudged why) e = open_still v (λ chosen q. absurd_by (cc))
-    judged_way Undecided e = open_still v (λ chosen q. absurd_by (cc))
-    judged_way (Decided chosen) e = chosen_way chosen e
+    judged_way (Err why) e = open_still v (λ chosen q. absurd_by (cc))
+    judged_way (Ok None) e = open_still v (λ chosen q. absurd_by (cc))
+    judged_way (Ok (Some chosen)) e = chosen_way chosen e
 
   floor_way : (phase : Phase) → c.phase ≡ phase → To (Floor c.label) (vote_plan s c (in_floor (brief_of c) phase))
   unfolding in_floor judged_plan judged_in
@@ -241,8 +240,8 @@ module _ (s : Numbers) (c : Controller) (a : Message) where
   module _ (sender : ℕ) (digest : Digest) (ne : sender ≡ c.own → ⊥) where
     seat_way : (phase : Phase) → c.phase ≡ phase → Busy phase → (b : Ballot) → ballot_at c sender ≡ b → To (Vote sender c.label digest) (vote_plan s c (in_seat sender digest phase b))
     unfolding in_seat judged_plan
-    seat_way phase e q Missing k = taken_way sender digest ne (rw k tt) phase e q
-    seat_way phase e q (Cast d) k =
+    seat_way phase e q None k = taken_way sender digest ne (rw k tt) phase e q
+    seat_way phase e q (Some d) k =
         on_pick (λ (p : Plan). To (Vote sender c.label digest) (vote_plan s c p)) (same d digest) (λ t. taken_way sender digest ne (rw k (same_true d digest t)) phase e q)
         (λ n. refused Clash (is_clash (by_digest ne (subst Busy (sym e) q) k (λ z. true≢false (sym (ap (λ (x : Digest). same x digest) z ∙ same_refl digest) ∙ n)))))
 

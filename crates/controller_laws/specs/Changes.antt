@@ -1,14 +1,12 @@
 -- "What a step doesn't name stays": where each reading, each vote and the state after a step come from.
-use Rattle.std.specs.Prelude.{ℕ, ◌≡◌, true, get_or}
+use Rattle.std.specs.Prelude.{ℕ, ◌≡◌, true, get_or, Some}
 use Rattle.units.specs.declared.labels.RoundLabel.{RoundLabel}
 use Rattle.units.specs.Mask.{in_mask}
 use Rattle.vote.specs.declared.digest.Digest.{Digest}
-use Rattle.vote.specs.declared.votes.Ballot.TheVariants.{Cast}
 use Rattle.message.specs.declared.head.Head.{Head}
 use Rattle.message.specs.declared.head.Head.TheVariants.{Reading, Reply, Vote, Floor, Start}
 use Rattle.message.specs.declared.value.Message.{Message}
 use Rattle.plan.specs.declared.brief.Phase.TheVariants.{Pending}
-use Rattle.plan.specs.declared.planned.Sent.TheVariants.{One}
 use Rattle.plan.specs.Votes.{own_digest}
 use Rattle.controller.specs.declared.state.Controller.{Controller}
 use Rattle.controller.specs.declared.step.Answer.{Answer}
@@ -26,7 +24,7 @@ pub data ReadingFrom (c : Controller) (a : Message) (n : Controller) (i : ℕ) :
 
 -- a vote held after a step: it was held, or the message is its D, or it is our own and goes out with this F
 pub data VoteFrom (c : Controller) (a : Message) (r : Answer) (seat : ℕ) (d : Digest) : Type 0 where
-  was_cast : r.next.label ≡ c.label → ballot_at c seat ≡ Cast d → VoteFrom c a r seat d
+  was_cast : r.next.label ≡ c.label → ballot_at c seat ≡ Some d → VoteFrom c a r seat d
   by_digest : a.head ≡ Vote seat r.next.label d → VoteFrom c a r seat d
   by_floor : a.head ≡ Floor r.next.label → c.phase ≡ Pending → seat ≡ c.own → d ≡ own_digest (brief_of c)
-      → r.first ≡ One (Vote c.own r.next.label (own_digest (brief_of c))) → VoteFrom c a r seat d
+      → r.first ≡ Some (Vote c.own r.next.label (own_digest (brief_of c))) → VoteFrom c a r seat d

@@ -1,14 +1,12 @@
 -- "12, 13 and 14 .. end the round: the phase becomes idle, all else kept, with the D or F that led there taken in. After F our D is still sent, ahead of the refusal."
-use Rattle.std.specs.Prelude.{ℕ, ◌≡◌}
+use Rattle.std.specs.Prelude.{ℕ, ◌≡◌, Err, None}
 use Rattle.units.specs.declared.refusal.Refusal.{Refusal}
 use Rattle.units.specs.declared.refusal.Refusal.TheVariants.{Undecided, Lacking, Behind}
-use Rattle.units.specs.declared.refusal.Verdict.TheVariants.{Refused as Denied}
 use Rattle.vote.specs.declared.digest.Digest.{Digest}
 use Rattle.message.specs.declared.head.Head.{Head}
 use Rattle.message.specs.declared.head.Head.TheVariants.{VotingEnds}
 use Rattle.plan.specs.declared.brief.Phase.TheVariants.{Idle, Voting}
-use Rattle.plan.specs.declared.planned.Sent.{Sent}
-use Rattle.plan.specs.declared.planned.Sent.TheVariants.{Nothing}
+use Rattle.plan.specs.Plan.{Sent}
 use Rattle.controller.specs.declared.state.Controller.{Controller}
 use Rattle.controller.specs.declared.step.Answer.{Answer}
 use Rattle.controller.specs.Effects.{in_phase, counted}
@@ -16,11 +14,11 @@ use Rattle.controller_laws.specs.Ways.{Votes}
 
 -- a refusal that leaves the controller as it was, with nothing sent
 abbrev pub refused_only : Controller → Refusal → Answer
-refused_only c why = record { next = c; first = Nothing; second = Nothing; verdict = Denied why }
+refused_only c why = record { next = c; first = None; second = None; verdict = Err why }
 
 -- a vote in its seat, the phase idle, and what goes out with the vote
 abbrev pub ended_with : Controller → ℕ → Digest → Sent → Refusal → Answer
-ended_with c seat digest first why = record { next = counted c seat digest Idle; first = first; second = Nothing; verdict = Denied why }
+ended_with c seat digest first why = record { next = counted c seat digest Idle; first = first; second = None; verdict = Err why }
 
 -- how the message h ends a round
 pub data Ended (c : Controller) : Head → Refusal → Answer → Type 0 where

@@ -1,5 +1,5 @@
 -- WHAT IT IS TO BE IN RANGE, clause by clause and in document 01's words: a controller state handed in as a value, the inputs of a step, a start.
-use Rattle.std.specs.Prelude.{ℕ, ◌≤◌, ◌<◌, ◌^◌, ◌≡◌, true, false, length, get_or}
+use Rattle.std.specs.Prelude.{ℕ, ◌≤◌, ◌<◌, ◌^◌, ◌≡◌, true, false, length, get_or, None, Some}
 use Rattle.units.specs.declared.labels.RoundLabel.{RoundLabel}
 use Rattle.units.specs.declared.settings.Numbers.{Numbers}
 use Rattle.units.specs.Limits.{controllers_top, runs_top, label_top, raw_top, x_top, variance_top}
@@ -7,7 +7,6 @@ use Rattle.units.specs.Mask.{in_mask}
 use Rattle.units.specs.Settings.{numbers_fit}
 use Rattle.floats.specs.Ranges.{up_to, blank, no_estimate}
 use Rattle.vote.specs.declared.digest.Digest.{Digest}
-use Rattle.vote.specs.declared.votes.Ballot.TheVariants.{Missing, Cast}
 use Rattle.vote.specs.InRange.{LegalDigest}
 use Rattle.message.specs.declared.value.Message.{Message}
 use Rattle.message.specs.Message.{message_fits}
@@ -35,13 +34,13 @@ pub record ControllerInRange (s : Numbers) (c : Controller) : Type 0 where
   pub reading : (i : ℕ) → i < runs_top → in_mask c.held i ≡ true → get_or c.readings i 0 ≤ raw_top
   pub no_reading : (i : ℕ) → i < runs_top → in_mask c.held i ≡ false → get_or c.readings i 0 ≡ 0
   -- not "if a vote it holds isn't legal for its label"; no vote stands at g or above
-  pub vote : (i : ℕ) (d : Digest) → i < controllers_top → ballot_at c i ≡ Cast d → (i < s.group.g) × LegalDigest s.group.m c.label d
+  pub vote : (i : ℕ) (d : Digest) → i < controllers_top → ballot_at c i ≡ Some d → (i < s.group.g) × LegalDigest s.group.m c.label d
   -- not "if it isn't idle and holds no reading or a state label at or above its label"
   pub busy : Busy c.phase → (1 ≤ c.held) × (c.state.0 < c.label.0)
   -- "or its own vote while collecting or pending"
-  pub unvoted : Early c.phase → ballot_at c c.own ≡ Missing
+  pub unvoted : Early c.phase → ballot_at c c.own ≡ None
   -- "or none of its own while voting"
-  pub voted : c.phase ≡ Voting → (d : Digest) × (ballot_at c c.own ≡ Cast d)
+  pub voted : c.phase ≡ Voting → (d : Digest) × (ballot_at c c.own ≡ Some d)
 
 -- "Messages, .. settings or a controller state handed in as values"
 pub record InputsInRange (s : Numbers) (c : Controller) (a : Message) : Type 0 where

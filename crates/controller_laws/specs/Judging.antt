@@ -1,14 +1,12 @@
 -- WHAT JUDGING LEADS TO: "While voting, the vote is judged after F and after each D. If decided: 14, then 13 .. else compute, send S", and what comes where it is not decided.
-use Rattle.std.specs.Prelude.{ℕ, ◌≡◌, true, false}
+use Rattle.std.specs.Prelude.{ℕ, ◌≡◌, true, false, None, Ok}
 use Rattle.units.specs.declared.refusal.Refusal.TheVariants.{Lacking}
-use Rattle.units.specs.declared.refusal.Verdict.TheVariants.{Taken}
 use Rattle.units.specs.declared.settings.Numbers.{Numbers}
 use Rattle.vote.specs.declared.digest.Digest.{Digest}
 use Rattle.vote.specs.Vote.{Decides}
 use Rattle.message.specs.declared.head.Head.TheVariants.{Setpoints}
 use Rattle.plan.specs.declared.brief.Phase.TheVariants.{Idle, Voting}
-use Rattle.plan.specs.declared.planned.Sent.{Sent}
-use Rattle.plan.specs.declared.planned.Sent.TheVariants.{Nothing}
+use Rattle.plan.specs.Plan.{Sent}
 use Rattle.plan.specs.Votes.{possessed}
 use Rattle.controller.specs.declared.state.Controller.{Controller}
 use Rattle.controller.specs.declared.step.Answer.{Answer}
@@ -20,12 +18,12 @@ use Rattle.controller_laws.specs.Sendings.{IsSent}
 
 -- a vote in its seat, the phase still voting, and what goes out with the vote
 abbrev pub still_voting : Controller → ℕ → Digest → Sent → Answer
-still_voting c seat digest first = record { next = counted c seat digest Voting; first = first; second = Nothing; verdict = Taken }
+still_voting c seat digest first = record { next = counted c seat digest Voting; first = first; second = None; verdict = Ok tt }
 
 -- the round was computed from d: S names it, and state and phase are those of an issue
 pub record IssuedFor (s : Numbers) (c : Controller) (seat : ℕ) (digest d : Digest) (r : Answer) : Type 0 where
   pub sent : IsSent r (Setpoints c.own c.label d)
-  pub verdict : r.verdict ≡ Taken
+  pub verdict : r.verdict ≡ Ok tt
   pub next : r.next ≡ issuing s (counted c seat digest Idle) d
 
 -- the answer r to a vote that was taken in while voting, where the votes are those held with this one in its seat: "decided for a digest exactly when

@@ -1,15 +1,14 @@
 -- What is known of a step by what came of it: a message that it sent, the state that it left. For laws about many controllers together.
-use Rattle.std.specs.Prelude.{ℕ, ◌≡◌, true}
+use Rattle.std.specs.Prelude.{ℕ, ◌≡◌, true, Ok, Some}
 use Rattle.std.specs.Int.Bits.{bit_and}
 use Rattle.units.specs.declared.settings.Numbers.{Numbers}
 use Rattle.units.specs.Labels.{before}
 use Rattle.vote.specs.declared.digest.Digest.{Digest}
-use Rattle.vote.specs.declared.judge.Decision.TheVariants.{Decided}
 use Rattle.message.specs.declared.head.Head.{Head}
 use Rattle.message.specs.declared.head.Head.TheVariants.{Query, Reply, Advert, Update, Vote, Setpoints, Floor}
 use Rattle.message.specs.declared.value.Message.{Message}
 use Rattle.plan.specs.declared.brief.Phase.TheVariants.{Idle, Collecting, Pending}
-use Rattle.plan.specs.declared.planned.Sent.{Sent}
+use Rattle.plan.specs.Plan.{Sent}
 use Rattle.plan.specs.Timers.{missing_runs}
 use Rattle.plan.specs.Votes.{own_digest, possessed}
 use Rattle.controller.specs.declared.state.Controller.{Controller}
@@ -27,7 +26,7 @@ pub record RoundIssued (s : Numbers) (c : Controller) (h : Head) (chosen : Diges
   pub digest : Digest
   pub first : Sent
   pub vote : Votes c h seat digest first
-  pub chose : decision_with s c seat digest ≡ Decided chosen
+  pub chose : decision_with s c seat digest ≡ Ok (Some chosen)
   pub older : before chosen.state c.label ≡ true
   pub here : possessed (brief_of c) chosen ≡ true
   pub next : n ≡ issuing s (counted c seat digest Idle) chosen

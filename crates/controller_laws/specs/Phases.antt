@@ -1,8 +1,7 @@
 -- Groups of phases that document 01 names together, and a seat that takes a digest.
-use Rattle.std.specs.Prelude.{◌≡◌}
+use Rattle.std.specs.Prelude.{◌≡◌, None, Some}
 use Rattle.vote.specs.declared.digest.Digest.{Digest}
-use Rattle.vote.specs.declared.votes.Ballot.{Ballot}
-use Rattle.vote.specs.declared.votes.Ballot.TheVariants.{Missing, Cast}
+use Rattle.vote.specs.Digest.{Ballot}
 use Rattle.plan.specs.declared.brief.Phase.{Phase}
 use Rattle.plan.specs.declared.brief.Phase.TheVariants.{Idle, Collecting, Pending, Voting}
 
@@ -36,5 +35,5 @@ Fixed Voting = Unit {0}
 
 -- a seat takes a digest: it is empty, or holds that digest already
 abbrev pub Free : Ballot → Digest → Type 0
-Free Missing d = Unit {0}
-Free (Cast e) d = e ≡ d
+Free None d = Unit {0}
+Free (Some e) d = e ≡ d

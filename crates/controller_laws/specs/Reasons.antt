@@ -1,5 +1,5 @@
 -- WHY A MESSAGE IS REFUSED, AND WHY IT CHANGES NOTHING: document 01's numbers 3 and 7 to 11, each with its conditions, in the order in which they are checked.
-use Rattle.std.specs.Prelude.{ℕ, ◌≤◌, ◌<◌, ◌≡◌, true, false, get_or}
+use Rattle.std.specs.Prelude.{ℕ, ◌≤◌, ◌<◌, ◌≡◌, true, false, get_or, Some}
 use Rattle.std.specs.Int.Bits.{bit_and}
 use Rattle.units.specs.declared.labels.RoundLabel.{RoundLabel}
 use Rattle.units.specs.declared.labels.StateLabel.{StateLabel}
@@ -10,7 +10,6 @@ use Rattle.units.specs.Labels.{just_before}
 use Rattle.units.specs.Mask.{in_mask}
 use Rattle.floats.specs.Ranges.{same_state}
 use Rattle.vote.specs.declared.digest.Digest.{Digest}
-use Rattle.vote.specs.declared.votes.Ballot.TheVariants.{Cast}
 use Rattle.message.specs.declared.head.Head.{Head}
 use Rattle.message.specs.declared.head.Head.TheVariants.{Reading, Query, Reply, Advert, Update, Vote, Setpoints, Due, CollectingEnds, VotingEnds, Floor, Refused}
 use Rattle.message.specs.declared.value.Message.{Message}
@@ -65,7 +64,7 @@ pub data Clashed (c : Controller) (a : Message) : Head → Type 0 where
       → Clashed c a (Reading c.label run raw)
   by_reply : {sender mask : ℕ} → (sender ≡ c.own → ⊥) → c.phase ≡ Collecting → clashing c mask a.readings ≡ true → Clashed c a (Reply sender c.label mask)
   by_update : {sender : ℕ} → (sender ≡ c.own → ⊥) → Open c.phase → same_state a.estimates c.estimates ≡ false → Clashed c a (Update sender c.state)
-  by_digest : {sender : ℕ} {digest e : Digest} → (sender ≡ c.own → ⊥) → Busy c.phase → ballot_at c sender ≡ Cast e → (e ≡ digest → ⊥)
+  by_digest : {sender : ℕ} {digest e : Digest} → (sender ≡ c.own → ⊥) → Busy c.phase → ballot_at c sender ≡ Some e → (e ≡ digest → ⊥)
       → Clashed c a (Vote sender c.label digest)
 
 -- why the message h is refused, but for 6, and for 12, 13 and 14, which end the round

@@ -1,17 +1,15 @@
 -- What a step may send: "at most what document 01 names", by the kind of message that it took.
-use Rattle.std.specs.Prelude.{ℕ, ◌≤◌, ◌<◌, ◌≡◌, ◌⊎◌}
+use Rattle.std.specs.Prelude.{ℕ, ◌<◌, ◌≡◌, ◌⊎◌, None, Ok, Some}
 use Rattle.std.specs.Int.Bits.{bit_and}
 use Rattle.units.specs.declared.labels.StateLabel.{StateLabel}
 use Rattle.units.specs.declared.settings.Numbers.{Numbers}
 use Rattle.vote.specs.declared.digest.Digest.{Digest}
-use Rattle.vote.specs.declared.judge.Decision.TheVariants.{Decided}
 use Rattle.message.specs.declared.head.Head.{Head}
 use Rattle.message.specs.declared.head.Head.TheVariants.{Query, Reply, Advert, Update, Vote, Setpoints, Due, CollectingEnds, Floor}
 use Rattle.message.specs.declared.value.Message.{Message}
 use Rattle.message.specs.View.{on_vote}
 use Rattle.plan.specs.declared.brief.Phase.TheVariants.{Collecting, Pending}
-use Rattle.plan.specs.declared.planned.Sent.{Sent}
-use Rattle.plan.specs.declared.planned.Sent.TheVariants.{Nothing, One}
+use Rattle.plan.specs.Plan.{Sent}
 use Rattle.plan.specs.Timers.{missing_runs}
 use Rattle.plan.specs.Votes.{own_digest}
 use Rattle.controller.specs.declared.state.Controller.{Controller}
@@ -24,11 +22,11 @@ use Rattle.controller_laws.specs.Ways.{Votes}
 
 -- one of an answer's up to two messages
 abbrev pub IsSent : Answer → Head → Type 0
-IsSent r head = (r.first ≡ One head) ⊎ (r.second ≡ One head)
+IsSent r head = (r.first ≡ Some head) ⊎ (r.second ≡ Some head)
 
--- one of the whole messages that a step tells of, by their number
+-- one of the whole messages that a step tells of
 abbrev pub Tells : Told → Message → Type 0
-Tells t x = ((1 ≤ t.sent) × (t.first ≡ x)) ⊎ ((2 ≤ t.sent) × (t.second ≡ x))
+Tells t x = (t.first ≡ Some x) ⊎ (t.second ≡ Some x)
 
 -- what the message on the left may lead to being sent
 pub data MaySend (s : Numbers) (c : Controller) : Head → Head → Type 0 where
@@ -38,13 +36,13 @@ pub data MaySend (s : Numbers) (c : Controller) : Head → Head → Type 0 where
   advert : c.phase ≡ Collecting → MaySend s c (Due c.label) (Advert c.own c.state)
   floor : c.phase ≡ Collecting → MaySend s c (CollectingEnds c.label) (Floor c.label)
   vote : c.phase ≡ Pending → MaySend s c (Floor c.label) (Vote c.own c.label (own_digest (brief_of c)))
-  setpoints : {h : Head} {seat : ℕ} {digest chosen : Digest} {first : Sent} → Votes c h seat digest first → decision_with s c seat digest ≡ Decided chosen
+  setpoints : {h : Head} {seat : ℕ} {digest chosen : Digest} {first : Sent} → Votes c h seat digest first → decision_with s c seat digest ≡ Ok (Some chosen)
       → MaySend s c h (Setpoints c.own c.label chosen)
 
 -- something holds of a message that is sent
 abbrev pub OnSent : (Head → Type 0) → Sent → Type 0
-OnSent P Nothing = Unit {0}
-OnSent P (One head) = P head
+OnSent P None = Unit {0}
+OnSent P (Some head) = P head
 
 -- the message is a D
 abbrev pub IsVote : Head → Type 0

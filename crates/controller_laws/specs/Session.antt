@@ -1,5 +1,5 @@
 -- DOCUMENT 01'S SESSION: its settings, the messages that its lines say after `B 0 0`, and what is answered to each.
-use Rattle.std.specs.Prelude.{ℕ, List, [], ◌∷◌, ◌++◌, map, replicate, take}
+use Rattle.std.specs.Prelude.{ℕ, List, [], ◌∷◌, ◌++◌, map, replicate, take, None, Some}
 use Rattle.units.specs.declared.estimate.Estimate.{Estimate}
 use Rattle.units.specs.declared.labels.RoundLabel.{RoundLabel}
 use Rattle.units.specs.declared.settings.Group.{Group}
@@ -12,8 +12,7 @@ use Rattle.message.specs.declared.head.Head.TheVariants.{Reading, Advert, Update
 use Rattle.message.specs.declared.value.Message.{Message}
 use Rattle.message.specs.Head.{carried}
 use Rattle.message.specs.Message.{plain}
-use Rattle.plan.specs.declared.planned.Sent.{Sent}
-use Rattle.plan.specs.declared.planned.Sent.TheVariants.{Nothing, One}
+use Rattle.plan.specs.Plan.{Sent}
 use Rattle.controller.specs.declared.state.Controller.{Controller}
 use Rattle.controller.specs.declared.step.Answer.{Answer}
 use Rattle.controller.specs.Sent.{sent_message}
@@ -42,8 +41,8 @@ line s a =
     }
 
 unfoldable pub whole : Numbers → Controller → Sent → List Line → List Line
-whole s c Nothing more = more
-whole s c (One head) more = line s.group (sent_message s c head) ∷ more
+whole s c None more = more
+whole s c (Some head) more = line s.group (sent_message s c head) ∷ more
 
 unfoldable pub said : Numbers → Answer → Said
 said s r = record { sent = whole s r.next r.first (whole s r.next r.second []); number = verdict_number r.verdict }

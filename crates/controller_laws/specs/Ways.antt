@@ -1,26 +1,23 @@
 -- THE WAYS THAT A STEP CAN GO: each plan that a message can lead to, with what is known there. Every law of the step goes by these.
-use Rattle.std.specs.Prelude.{ℕ, ◌≤◌, ◌<◌, ◌≡◌, Bool, true, false}
+use Rattle.std.specs.Prelude.{ℕ, ◌≤◌, ◌<◌, ◌≡◌, Bool, true, false, Err, None, Ok, Some}
 use Rattle.std.specs.Int.Bits.{bit_and}
 use Rattle.units.specs.declared.labels.RoundLabel.{RoundLabel}
 use Rattle.units.specs.declared.labels.StateLabel.{StateLabel}
 use Rattle.units.specs.declared.refusal.Refusal.{Refusal}
 use Rattle.units.specs.declared.refusal.Refusal.TheVariants.{Range, Undecided, Lacking, Behind}
-use Rattle.units.specs.declared.refusal.Verdict.TheVariants.{Taken, Refused as Denied}
 use Rattle.units.specs.declared.settings.Numbers.{Numbers}
 use Rattle.units.specs.Labels.{before, just_before}
 use Rattle.units.specs.Mask.{in_mask}
 use Rattle.units.specs.Refusal.{number_of}
 use Rattle.units.specs.Within.{within}
 use Rattle.vote.specs.declared.digest.Digest.{Digest}
-use Rattle.vote.specs.declared.judge.Decision.TheVariants.{Decided}
 use Rattle.message.specs.declared.head.Head.{Head}
 use Rattle.message.specs.declared.head.Head.TheVariants.{Reading, Query, Reply, Advert, Update, Vote, Setpoints, Due, CollectingEnds, VotingEnds, Floor, Start}
 use Rattle.message.specs.declared.value.Message.{Message}
 use Rattle.plan.specs.declared.brief.Phase.TheVariants.{Idle, Collecting, Pending, Voting}
 use Rattle.plan.specs.declared.planned.Effect.TheVariants.{Keep, Go, Begin, Add, Merge, Adopt, Count, Issue, Restart}
 use Rattle.plan.specs.declared.planned.Plan.{Plan}
-use Rattle.plan.specs.declared.planned.Sent.{Sent}
-use Rattle.plan.specs.declared.planned.Sent.TheVariants.{Nothing, One}
+use Rattle.plan.specs.Plan.{Sent}
 use Rattle.plan.specs.Plan.{refuse, does, sends, both, afterwards}
 use Rattle.plan.specs.Timers.{missing_runs}
 use Rattle.plan.specs.Votes.{own_digest, end_of, possessed}
@@ -38,9 +35,9 @@ ends_round why = within 12 14 (number_of why)
 -- "the vote is judged after F and after each D": the vote that is taken in while voting, and what goes out with it
 pub data Votes (c : Controller) : Head → ℕ → Digest → Sent → Type 0 where
   another's : {sender : ℕ} {digest : Digest} → (sender ≡ c.own → ⊥) → c.phase ≡ Voting → Free (ballot_at c sender) digest
-      → Votes c (Vote sender c.label digest) sender digest Nothing
+      → Votes c (Vote sender c.label digest) sender digest None
   ours : c.phase ≡ Pending
-      → Votes c (Floor c.label) c.own (own_digest (brief_of c)) (One (Vote c.own c.label (own_digest (brief_of c))))
+      → Votes c (Floor c.label) c.own (own_digest (brief_of c)) (Some (Vote c.own c.label (own_digest (brief_of c))))
 
 -- what the message h leads to
 pub data Leads (s : Numbers) (c : Controller) (a : Message) : Head → Plan → Type 0 where
@@ -75,27 +72,27 @@ pub data Leads (s : Numbers) (c : Controller) (a : Message) : Head → Plan → 
   -- E, V
   collected : c.phase ≡ Collecting → Leads s c a (CollectingEnds c.label) (sends (Go Pending) (Floor c.label))
   lapses : c.phase ≡ Voting
-      → Leads s c a (VotingEnds c.label) (record { effect = Go Idle; first = Nothing; second = Nothing; verdict = Denied Undecided })
+      → Leads s c a (VotingEnds c.label) (record { effect = Go Idle; first = None; second = None; verdict = Err Undecided })
   -- D before our vote
   counts : {sender : ℕ} {digest : Digest} → (sender ≡ c.own → ⊥) → Early c.phase → Free (ballot_at c sender) digest
       → Leads s c a (Vote sender c.label digest) (does (Count sender digest c.phase))
   -- D and F while voting
   open_still : {h : Head} {seat : ℕ} {digest : Digest} {first : Sent} → Votes c h seat digest first
-      → ((chosen : Digest) → decision_with s c seat digest ≡ Decided chosen → ⊥)
-      → Leads s c a h (record { effect = Count seat digest Voting; first = first; second = Nothing; verdict = Taken })
+      → ((chosen : Digest) → decision_with s c seat digest ≡ Ok (Some chosen) → ⊥)
+      → Leads s c a h (record { effect = Count seat digest Voting; first = first; second = None; verdict = Ok tt })
   behind : {h : Head} {seat : ℕ} {digest : Digest} {first : Sent} {chosen : Digest} → Votes c h seat digest first
-      → decision_with s c seat digest ≡ Decided chosen → before chosen.state c.label ≡ false
+      → decision_with s c seat digest ≡ Ok (Some chosen) → before chosen.state c.label ≡ false
       → Leads s c a h (end_of seat digest first Behind)
   lacking : {h : Head} {seat : ℕ} {digest : Digest} {first : Sent} {chosen : Digest} → Votes c h seat digest first
-      → decision_with s c seat digest ≡ Decided chosen → before chosen.state c.label ≡ true → possessed (brief_of c) chosen ≡ false
+      → decision_with s c seat digest ≡ Ok (Some chosen) → before chosen.state c.label ≡ true → possessed (brief_of c) chosen ≡ false
       → Leads s c a h (end_of seat digest first Lacking)
   issues : {h : Head} {seat : ℕ} {digest : Digest} {first : Sent} {chosen : Digest} → Votes c h seat digest first
-      → decision_with s c seat digest ≡ Decided chosen → before chosen.state c.label ≡ true → possessed (brief_of c) chosen ≡ true
+      → decision_with s c seat digest ≡ Ok (Some chosen) → before chosen.state c.label ≡ true → possessed (brief_of c) chosen ≡ true
       → Leads s c a h (afterwards (Issue seat digest chosen) (Setpoints c.own c.label chosen) first)
   -- B
   restarts : {own : ℕ} {floor : RoundLabel} → Leads s c a (Start own floor) (does (Restart own floor))
 
 -- a step: 6 where something is out of range, else a plan that the message leads to, carried out
 pub data Goes (s : Numbers) (c : Controller) (a : Message) : Answer → Type 0 where
-  out : inputs_fit s c a ≡ false → Goes s c a (record { next = c; first = Nothing; second = Nothing; verdict = Denied Range })
+  out : inputs_fit s c a ≡ false → Goes s c a (record { next = c; first = None; second = None; verdict = Err Range })
   led : {p : Plan} → inputs_fit s c a ≡ true → Leads s c a a.head p → Goes s c a (carried_out s c a p)

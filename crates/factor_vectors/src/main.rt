@@ -5,35 +5,22 @@
 ghost use Rattle.std.specs.Prelude.{◌+◌, ◌≤◌, length};
 
 use fields::text::TAB;
-use fields::{Field, read_factor};
+use fields::{Fault, Field, read_factor};
 use std::io;
 use units::limits::{FACTOR_LOW, FACTOR_TOP};
 
 // What the fields are made of.
-const MADE_OF: [u8; 8] = [48, 49, 57, 46, 52, 65, 97, 9];
+const MADE_OF: [u8; 8] = [b'0', b'1', b'9', b'.', b'4', b'A', b'a', TAB];
 
 // No bound but the spelling's own.
-const WIDE: u64 = 18446744073709551615;
-
-fn say(rt: &impl Print, text: &[u8]) -> io::Result<()> {
-    rt.write_all(text)
-}
-
-fn tell(rt: &impl Print, n: u64) -> io::Result<()> {
-    rt.print(n)
-}
+const WIDE: u64 = u64::MAX;
 
 // A field's number and the place of the next, or its refusal.
-fn tell_field(rt: &impl Print, field: Field) -> io::Result<()> {
-    match field {
-        Field::Value { n, next } => {
-            say(rt, b"\t")?;
-            tell(rt, n)?;
-            say(rt, b" ")?;
-            tell(rt, next as u64)
-        }
-        Field::Form => say(rt, b"\t5"),
-        Field::Range => say(rt, b"\t6"),
+fn tell_field(rt: &impl Print, read: Result<Field, Fault>) -> io::Result<()> {
+    match read {
+        Ok(Field { n, next }) => print!(rt; "\t{n} {next}"),
+        Err(Fault::Form) => print!(rt; "\t5"),
+        Err(Fault::Range) => print!(rt; "\t6")
     }
 }
 
@@ -47,21 +34,14 @@ fn tell_at(rt: &impl Print, text: &[u8], at: usize) -> io::Result<()> {
 }
 
 fn in_form(text: &[u8], at: usize) -> bool {
-    match read_factor(text, at, 0, WIDE) {
-        Field::Value { n: _, next: _ } => true,
-        Field::Form => false,
-        Field::Range => true,
-    }
+    !matches!(read_factor(text, at, 0, WIDE), Err(Fault::Form))
 }
 
 // A field's bytes, with _ for a tab.
 fn say_field(rt: &impl Print, field: &[u8]) -> io::Result<()> {
-    let mut i: usize = 0;
-    while i < field.len() {
-        let b = field[i];
-        let shown = if b == TAB { 95 } else { b };
-        say(rt, &[shown])?;
-        i += 1;
+    for b in field {
+        let shown = if *b == TAB { b'_' } else { *b };
+        rt.write_all(&[shown])?;
     }
     Ok(())
 }
@@ -71,14 +51,12 @@ fn text_of(number: u64, k: usize) -> [u8; 11]
     requires { k ≤ 7 }
 {
     let mut text = [TAB; 11];
-    text[0] = 57;
-    text[k + 3] = 52;
+    text[0] = b'9';
+    text[k + 3] = b'4';
     let mut rest = number;
-    let mut i: usize = 0;
-    while i < k {
-        text[i + 2] = MADE_OF[(rest % 8) as usize];
-        rest = rest / 8;
-        i += 1;
+    for b in &mut text[2..k + 2] {
+        *b = MADE_OF[(rest % 8) as usize];
+        rest /= 8;
     }
     text
 }
@@ -101,7 +79,7 @@ fn show(
     tell_at(rt, followed, 0)?;
     tell_at(rt, behind, 2)?;
     tell_at(rt, between, 2)?;
-    say(rt, b"\n")?;
+    println!(rt; "")?;
     Ok(true)
 }
 
@@ -119,49 +97,36 @@ fn show_in(rt: &impl Print, text: &[u8], k: usize) -> io::Result<bool>
 }
 
 // All fields of k bytes, and how many of them were shown.
-fn show_all(rt: &impl Print, k: usize, count: u64) -> io::Result<()>
+fn show_all(rt: &impl Print, k: usize) -> io::Result<()>
     requires { k ≤ 7 }
 {
+    let count = 1u64 << (3 * k);
     let mut shown: u64 = 0;
-    let mut number: u64 = 0;
-    while number < count {
+    for number in 0..count {
         let text = text_of(number, k);
         if show_in(rt, &text, k)? {
             shown += 1;
         }
-        number += 1;
     }
-    tell(rt, k as u64)?;
-    say(rt, b" bytes\t")?;
-    tell(rt, count)?;
-    say(rt, b" fields\t")?;
-    tell(rt, shown)?;
-    say(rt, b" shown\n")
+    println!(rt; "{k} bytes\t{count} fields\t{shown} shown")
 }
 
 // A factor's text from each of its places on, and from places past its end.
 fn show_places(rt: &impl Print, text: &[u8]) -> io::Result<()> {
-    let mut at: usize = 0;
-    while at < 9 {
-        tell(rt, at as u64)?;
+    for at in 0..9 {
+        print!(rt; "{at}")?;
         tell_at(rt, text, at)?;
-        say(rt, b"\n")?;
-        at += 1;
+        println!(rt; "")?;
     }
-    say(rt, b"far")?;
-    tell_at(rt, text, 18446744073709551610)?;
-    tell_at(rt, text, 18446744073709551615)?;
-    say(rt, b"\n")
+    print!(rt; "far")?;
+    tell_at(rt, text, usize::MAX - 5)?;
+    tell_at(rt, text, usize::MAX)?;
+    println!(rt; "")
 }
 
 fn main(rt: HostRuntime) -> io::Result<()> {
-    show_all(&rt, 0, 1)?;
-    show_all(&rt, 1, 8)?;
-    show_all(&rt, 2, 64)?;
-    show_all(&rt, 3, 512)?;
-    show_all(&rt, 4, 4096)?;
-    show_all(&rt, 5, 32768)?;
-    show_all(&rt, 6, 262144)?;
-    show_all(&rt, 7, 2097152)?;
+    for k in 0..8 {
+        show_all(&rt, k)?;
+    }
     show_places(&rt, b"1.0047")
 }

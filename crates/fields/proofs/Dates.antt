@@ -1,20 +1,20 @@
 -- Dates that are, and that are not; that their numbers are in the order of the days; and the one spelling of a day. Assumes nothing.
 use Prim.Native.Nat.{ℕ, ◌<◌}
-use mathlib.Core.Path.{◌≡◌, refl}
+use mathlib.Core.Path.{◌≡◌, refl, sym}
 use mathlib.Core.Bool.{Bool, true, false, ◌&&◌, ◌||◌}
 use mathlib.Core.List.{List}
 use lib.Dec.{eqb, lit≤, lit<}
 use borrow.Author.Tests.{ne_eqb}
 use native.Mathlib.Omega.{arith}
+use Rattle.std.specs.Prelude.{Option, Some, None, Err}
 use Rattle.units.specs.Within.{within}
 use Rattle.units.proofs.Every.{and_left, and_right, and_both}
 use Rattle.units.proofs.InRange.{within_range, within_made}
 use Rattle.fields.specs.Digits.{fixed_in, fixed}
-use Rattle.fields.specs.declared.digit.Digits.{Digits}
-use Rattle.fields.specs.declared.digit.Digits.TheVariants.{Said, Wrong}
-use Rattle.fields.specs.declared.field.Field.TheVariants.{Value, Range}
+use Rattle.fields.specs.declared.field.Fault.TheVariants.{Range}
+use Rattle.fields.specs.Field.{value}
 use Rattle.fields.specs.Day.{is_leap, days_in, date_fits, year_of, month_of, day_of, Date, Earlier, by_year, by_month, by_day, day_judged, day_in}
-use Rattle.fields.proofs.Cases.{by_test, by_lt, absurd_by}
+use Rattle.fields.proofs.Cases.{by_test, by_lt, absurd_by, value_same}
 use Rattle.fields.proofs.Numbers.{fixed_only, fixed_read}
 
 -- DATES: the last of February in a year with it, without it, of a hundred and of four hundred; the first and the last; a month and days that are not
@@ -63,16 +63,16 @@ pub date_within : (n : ℕ) → date_fits n ≡ true → (0 < n) × (n < 1000000
 date_within n e = let y = ((date_exact n).0 e).year in (omega arith, omega arith)
 
 -- THE LAW OF A DAY: what is accepted is the one spelling of a date, and every date is accepted in it
-judged_only : (next : ℕ) (d : Digits) (n m : ℕ) → day_judged next d ≡ Value n m → (d ≡ Said n) × (date_fits n ≡ true) × (m ≡ next)
+judged_only : (next : ℕ) (d : Option ℕ) (n m : ℕ) → day_judged next d ≡ value n m → (d ≡ Some n) × (date_fits n ≡ true) × (m ≡ next)
 unfolding day_judged
-judged_only next (Said k) n m = by_test (date_fits k) (λ t. rw t (λ e. let q : k ≡ n = cc in (rw q, rw q at t, cc))) (λ t. rw t (λ e. absurd_by (cc)))
-judged_only next Wrong n m = λ e. absurd_by (cc)
+judged_only next (Some k) n m = by_test (date_fits k) (λ t. rw t (λ e. let (q, o) = value_same e in (rw q, rw q at t, sym o))) (λ t. rw t (λ e. absurd_by (cc)))
+judged_only next None n m = λ e. absurd_by (cc)
 
-pub day_only : (next : ℕ) (cs : List ℕ) (n m : ℕ) → day_in next cs ≡ Value n m → (cs ≡ fixed 10 8 n) × (date_fits n ≡ true) × (m ≡ next)
+pub day_only : (next : ℕ) (cs : List ℕ) (n m : ℕ) → day_in next cs ≡ value n m → (cs ≡ fixed 10 8 n) × (date_fits n ≡ true) × (m ≡ next)
 unfolding day_in
 day_only next cs n m e = let j = judged_only next (fixed_in 10 8 0 cs) n m e in (fixed_only 10 8 cs n (lit≤ tt) j.0, j.1, j.2)
 
-pub day_read : (next n : ℕ) → date_fits n ≡ true → day_in next (fixed 10 8 n) ≡ Value n next
+pub day_read : (next n : ℕ) → date_fits n ≡ true → day_in next (fixed 10 8 n) ≡ value n next
 unfolding day_in day_judged
 day_read next n e = let b = date_within n e in rw (fixed_read 10 8 n (lit< tt) (lit≤ tt) b.1, e)
 
@@ -99,10 +99,10 @@ unfolding date_fits
 date_judged n last e = rw e
 
 -- `dated`
-pub dated_yes : (n next : ℕ) (b : Bool) → b ≡ date_fits n → b ≡ true → Value n next ≡ day_judged next (Said n)
+pub dated_yes : (n next : ℕ) (b : Bool) → b ≡ date_fits n → b ≡ true → value n next ≡ day_judged next (Some n)
 unfolding day_judged
 dated_yes n next b e t = rw (← e, t)
 
-pub dated_no : (n next : ℕ) (b : Bool) → b ≡ date_fits n → b ≡ false → Range ≡ day_judged next (Said n)
+pub dated_no : (n next : ℕ) (b : Bool) → b ≡ date_fits n → b ≡ false → Err Range ≡ day_judged next (Some n)
 unfolding day_judged
 dated_no n next b e t = rw (← e, t)

@@ -1,5 +1,5 @@
 -- What is held of a line: what the code of `cut` and its callers need. Assumes nothing.
-use Prim.Native.Nat.{ℕ, ◌+◌, ◌-◌, ◌≤◌, ◌<◌}
+use Prim.Native.Nat.{ℕ, ◌+◌, ◌-◌, ◌≤◌, ◌<◌, min}
 use mathlib.Core.Path.{◌≡◌, refl, sym, ap, ◌∙◌}
 use mathlib.Core.Bool.{true, false}
 use mathlib.Core.List.{List}
@@ -19,22 +19,28 @@ use Rattle.fields.proofs.Cases.{by_lt}
 use Rattle.fields.proofs.Texts.{until_short}
 
 -- how many more bytes are held
-pub fitting_none : (len n : ℕ) → carry_top < len → 0 ≡ fitting len n
-unfolding fitting pick
-fitting_none len n h = let z : carry_top - len ≡ 0 = omega arith in rw (z, le-ltb n 0 (omega arith))
-
-pub fitting_all : (len n : ℕ) → n < carry_top - len → n ≡ fitting len n
+fitting_all : (len n : ℕ) → n < carry_top - len → n ≡ fitting len n
 unfolding fitting
 fitting_all len n h = by_yes _ (lt-ltb n (carry_top - len) h) refl
 
-pub fitting_some : (len n : ℕ) → carry_top - len ≤ n → carry_top - len ≡ fitting len n
+fitting_some : (len n : ℕ) → carry_top - len ≤ n → carry_top - len ≡ fitting len n
 unfolding fitting
 fitting_some len n h = by_no _ (le-ltb n (carry_top - len) h) refl
+
+pub fitting_least : (len n m r : ℕ) → m ≡ carry_top - len → r ≡ min n m → r ≡ fitting len n
+fitting_least len n m r e q =
+    by_lt n (carry_top - len) (λ h. let z : r ≡ n = omega arith in z ∙ fitting_all len n h)
+    (λ h. let z : r ≡ carry_top - len = omega arith in z ∙ fitting_some len n h)
 
 fitting_take : (len n : ℕ) (l : List ℕ) → take (fitting len n) l ≡ take (carry_top - len) (take n l)
 fitting_take len n l = by_lt n (carry_top - len)
     (λ h. ap (λ k. take k l) (sym (fitting_all len n h)) ∙ sym (take_all (carry_top - len) (take n l) (let t = length-take n l in omega arith)))
     (λ h. ap (λ k. take k l) (sym (fitting_some len n h)) ∙ sym (take-take (carry_top - len) n l h))
+
+pub take_least : (m k : ℕ) (l : List ℕ) → k ≡ min m (length l) → take k l ≡ take m l
+take_least m k l e =
+    by_lt m (length l) (λ h. let z : k ≡ m = omega arith in rw z)
+    (λ h. take_all k l (omega arith) ∙ sym (take_all m l h))
 
 -- the carry after more bytes
 pub held_made : (k : Carry) (n m r : ℕ) (input s b : List ℕ) → m ≡ fitting k.len n → s ≡ take m input → r ≡ put_end k.bytes k.len s → b ≡ put k.bytes k.len s

@@ -10,11 +10,10 @@ use lib.ListN.{length, take, drop, length-append, length-drop}
 use lib.Seq.{length-take-le}
 use lib.Dec.{leb, ltb, eqb, lit<, lit≤}
 use borrow.Author.Tests.{lt-ltb, le-ltb, ltb-true, eq-eqb, ne_eqb, eqb-true, leb-true, le-leb}
+use Rattle.std.specs.Prelude.{Option, Some, None}
 use Rattle.units.proofs.Every.{and_left, and_right}
 use Rattle.fields.specs.Digits.{pick, digit_of, char_of, value_from, fixed_in, fixed, decimal_in, decimal, all_digits, digits_at, ReadDigits}
 use Rattle.fields.specs.Field.{plain, decimal_said}
-use Rattle.fields.specs.declared.digit.Digits.{Digits}
-use Rattle.fields.specs.declared.digit.Digits.TheVariants.{Said, Wrong}
 use Rattle.fields.proofs.Cases.{by_test, by_lt, absurd_by}
 
 -- A DIGIT AND ITS BYTE
@@ -60,9 +59,9 @@ snoc : (xs : List ℕ) → Snoc xs
 snoc [] = nil
 snoc (x ∷ xs) = snoc_cons x (snoc xs)
 
-abbrev after : ℕ → Digits → ℕ → Digits
-after base (Said h) c = pick (ltb (digit_of c) base) (Said (h * base + digit_of c)) Wrong
-after base Wrong c = Wrong
+abbrev after : ℕ → Option ℕ → ℕ → Option ℕ
+after base (Some h) c = pick (ltb (digit_of c) base) (Some (h * base + digit_of c)) None
+after base None c = None
 
 value_snoc : (base a : ℕ) (xs : List ℕ) (c : ℕ) → value_from base a (xs ++ (c ∷ [])) ≡ after base (value_from base a xs) c
 unfolding value_from
@@ -70,12 +69,12 @@ value_snoc base a [] c = refl
 value_snoc base a (x ∷ xs) c =
     by_test (ltb (digit_of x) base) (λ e. rw e (value_snoc base (a * base + digit_of x) xs c)) (λ e. rw e)
 
-after_value : (base : ℕ) (p : Digits) (c n : ℕ) → after base p c ≡ Said n → (h : ℕ) × (p ≡ Said h) × (digit_of c < base) × (n ≡ h * base + digit_of c)
-after_value base (Said h) c n =
+after_value : (base : ℕ) (p : Option ℕ) (c n : ℕ) → after base p c ≡ Some n → (h : ℕ) × (p ≡ Some h) × (digit_of c < base) × (n ≡ h * base + digit_of c)
+after_value base (Some h) c n =
     by_test (ltb (digit_of c) base)
     (λ t. rw t (λ e. (h, refl, ltb-true (digit_of c) base t, cc)))
     (λ t. rw t (λ e. absurd_by (cc)))
-after_value base Wrong c n = λ e. absurd_by (cc)
+after_value base None c n = λ e. absurd_by (cc)
 
 -- FIXED WIDTH
 pub fixed_length : (base k n : ℕ) → length (fixed base k n) ≡ k
@@ -83,20 +82,20 @@ unfolding fixed
 fixed_length base zero n = refl
 fixed_length base (suc k) n = length-append (fixed base k (n / base)) _ ∙ (let e = fixed_length base k (n / base) in omega arith)
 
-fixed_value : (base k n : ℕ) → 0 < base → base ≤ 16 → n < base ^ k → value_from base 0 (fixed base k n) ≡ Said n
+fixed_value : (base k n : ℕ) → 0 < base → base ≤ 16 → n < base ^ k → value_from base 0 (fixed base k n) ≡ Some n
 unfolding fixed value_from
-fixed_value base zero n p q h = ap Said (let e = pow-zero base in omega arith)
+fixed_value base zero n p q h = ap Some (let e = pow-zero base in omega arith)
 fixed_value base (suc k) n p q h =
     let m = mod-lt n p in
     let l : n % base < 16 = omega arith in
     let s : n < base ^ k * base = rw (pow-suc base k) at h in
-    rw (value_snoc base 0 (fixed base k (n / base)) (char_of (n % base)), fixed_value base k (n / base) p q ((div-lt_iff_lt-mul p).1 s), digit_char (n % base) l, lt-ltb (n % base) base m) (ap Said (div-add-mod' n base))
+    rw (value_snoc base 0 (fixed base k (n / base)) (char_of (n % base)), fixed_value base k (n / base) p q ((div-lt_iff_lt-mul p).1 s), digit_char (n % base) l, lt-ltb (n % base) base m) (ap Some (div-add-mod' n base))
 
-pub fixed_read : (base k n : ℕ) → 0 < base → base ≤ 16 → n < base ^ k → fixed_in base k 0 (fixed base k n) ≡ Said n
+pub fixed_read : (base k n : ℕ) → 0 < base → base ≤ 16 → n < base ^ k → fixed_in base k 0 (fixed base k n) ≡ Some n
 unfolding fixed_in
 fixed_read base k n p q h = rw (eq-eqb (length (fixed base k n)) k (fixed_length base k n)) (fixed_value base k n p q h)
 
-fixed_snoc : (base : ℕ) → base ≤ 16 → {cs : List ℕ} → Snoc cs → (k n : ℕ) → length cs ≡ k → value_from base 0 cs ≡ Said n → cs ≡ fixed base k n
+fixed_snoc : (base : ℕ) → base ≤ 16 → {cs : List ℕ} → Snoc cs → (k n : ℕ) → length cs ≡ k → value_from base 0 cs ≡ Some n → cs ≡ fixed base k n
 unfolding fixed
 fixed_snoc base q nil zero n l e = refl
 fixed_snoc base q nil (suc k) n l e = absurd (omega arith)
@@ -108,14 +107,14 @@ fixed_snoc base q (add {xs = xs} v c) (suc k) n l e =
     let d16 : digit_of c < 16 = omega arith in
     rw (m, digits_div h d, digits_mod h d, char_digit c d16, ← fixed_snoc base q v k h lx p)
 
-pub fixed_only : (base k : ℕ) (cs : List ℕ) (n : ℕ) → base ≤ 16 → fixed_in base k 0 cs ≡ Said n → cs ≡ fixed base k n
+pub fixed_only : (base k : ℕ) (cs : List ℕ) (n : ℕ) → base ≤ 16 → fixed_in base k 0 cs ≡ Some n → cs ≡ fixed base k n
 unfolding fixed_in
 fixed_only base k cs n q =
     by_test (eqb (length cs) k)
     (λ t. rw t (λ e. fixed_snoc base q (snoc cs) k n (eqb-true (length cs) k t) e))
     (λ t. rw t (λ e. absurd_by (cc)))
 
-fixed_below : (base : ℕ) {cs : List ℕ} → Snoc cs → (k n : ℕ) → length cs ≡ k → value_from base 0 cs ≡ Said n → n < base ^ k
+fixed_below : (base : ℕ) {cs : List ℕ} → Snoc cs → (k n : ℕ) → length cs ≡ k → value_from base 0 cs ≡ Some n → n < base ^ k
 unfolding value_from
 fixed_below base nil zero n l e = let z : 0 ≡ n = cc in let p = pow-zero base in omega arith
 fixed_below base nil (suc k) n l e = absurd (omega arith)
@@ -192,22 +191,22 @@ unfolding plain
 dec_plain zero n h = absurd (omega arith)
 dec_plain (suc k) n h = by_lt n 10 (λ s. rw (dec_small k n s)) (λ s. lead_plain (decimal_in (suc k) n) (dec_lead (suc k) n (omega arith) h))
 
-dec_value : (k n : ℕ) → n < k → value_from 10 0 (decimal_in k n) ≡ Said n
+dec_value : (k n : ℕ) → n < k → value_from 10 0 (decimal_in k n) ≡ Some n
 unfolding value_from
 dec_value zero n h = absurd (omega arith)
 dec_value (suc k) n h =
     by_lt n 10
-    (λ s. let l : n < 16 = omega arith in rw (dec_small k n s, digit_char n l, lt-ltb n 10 s) (ap Said (omega arith)))
+    (λ s. let l : n < 16 = omega arith in rw (dec_small k n s, digit_char n l, lt-ltb n 10 s) (ap Some (omega arith)))
     (λ s.
     let m : n % 10 < 10 = omega arith in
     let l : n % 10 < 16 = omega arith in
-    rw (dec_large k n s, value_snoc 10 0 (decimal_in k (n / 10)) (char_of (n % 10)), dec_value k (n / 10) (omega arith), digit_char (n % 10) l, lt-ltb (n % 10) 10 m) (ap Said (omega arith)))
+    rw (dec_large k n s, value_snoc 10 0 (decimal_in k (n / 10)) (char_of (n % 10)), dec_value k (n / 10) (omega arith), digit_char (n % 10) l, lt-ltb (n % 10) 10 m) (ap Some (omega arith)))
 
-pub decimal_read : (n : ℕ) → decimal_said (decimal n) ≡ Said n
+pub decimal_read : (n : ℕ) → decimal_said (decimal n) ≡ Some n
 unfolding decimal decimal_said
 decimal_read n = rw (dec_plain (suc n) n (omega arith)) (dec_value (suc n) n (omega arith))
 
-value_least : (a : ℕ) (xs : List ℕ) (n : ℕ) → value_from 10 a xs ≡ Said n → a ≤ n
+value_least : (a : ℕ) (xs : List ℕ) (n : ℕ) → value_from 10 a xs ≡ Some n → a ≤ n
 unfolding value_from
 value_least a [] n = λ e. let z : a ≡ n = cc in omega arith
 value_least a (x ∷ xs) n =
@@ -219,7 +218,7 @@ digit_zero : (c : ℕ) → digit_of c ≡ 0 → c ≡ 48
 unfolding char_of
 digit_zero c e = sym (char_digit c (omega arith)) ∙ ap char_of e
 
-lead_value : (xs : List ℕ) (n : ℕ) → lead xs ≡ true → value_from 10 0 xs ≡ Said n → 0 < n
+lead_value : (xs : List ℕ) (n : ℕ) → lead xs ≡ true → value_from 10 0 xs ≡ Some n → 0 < n
 unfolding value_from
 lead_value [] n h e = absurd_by (cc)
 lead_value (x ∷ xs) n h e =
@@ -235,8 +234,8 @@ unfolding plain
 more_lead y [] c h = h
 more_lead y (z ∷ zs) c h = h
 
-dec_more : (c n : ℕ) (ys : List ℕ) → (h : ℕ) × (value_from 10 0 ys ≡ Said h) × (digit_of c < 10) × (n ≡ h * 10 + digit_of c)
-    → plain (ys ++ (c ∷ [])) ≡ true → ((m : ℕ) → plain ys ≡ true → value_from 10 0 ys ≡ Said m → ys ≡ decimal m)
+dec_more : (c n : ℕ) (ys : List ℕ) → (h : ℕ) × (value_from 10 0 ys ≡ Some h) × (digit_of c < 10) × (n ≡ h * 10 + digit_of c)
+    → plain (ys ++ (c ∷ [])) ≡ true → ((m : ℕ) → plain ys ≡ true → value_from 10 0 ys ≡ Some m → ys ≡ decimal m)
     → ys ++ (c ∷ []) ≡ decimal n
 unfolding value_from
 dec_more c n [] (h, w, d, m) q ih =
@@ -253,13 +252,13 @@ dec_more c n (y ∷ ys) (h, w, d, m) q ih =
     let md : n % 10 ≡ digit_of c = omega arith in
     rw (decimal_large n big, qd, md, char_digit c d16, ← ih h (lead_plain (y ∷ ys) l) w)
 
-dec_snoc : {cs : List ℕ} → Snoc cs → (n : ℕ) → plain cs ≡ true → value_from 10 0 cs ≡ Said n → cs ≡ decimal n
+dec_snoc : {cs : List ℕ} → Snoc cs → (n : ℕ) → plain cs ≡ true → value_from 10 0 cs ≡ Some n → cs ≡ decimal n
 unfolding plain
 dec_snoc nil n p e = absurd_by (cc)
 dec_snoc (add {xs = xs} v c) n p e =
     dec_more c n xs (after_value 10 (value_from 10 0 xs) c n (sym (value_snoc 10 0 xs c) ∙ e)) p (λ m a b. dec_snoc v m a b)
 
-pub decimal_only : (cs : List ℕ) (n : ℕ) → decimal_said cs ≡ Said n → cs ≡ decimal n
+pub decimal_only : (cs : List ℕ) (n : ℕ) → decimal_said cs ≡ Some n → cs ≡ decimal n
 unfolding decimal_said
 decimal_only cs n =
     by_test (plain cs)
@@ -267,7 +266,7 @@ decimal_only cs n =
     (λ t. rw t (λ e. absurd_by (cc)))
 
 -- a decimal is as many digits as it has
-said_value : (cs : List ℕ) (n : ℕ) → decimal_said cs ≡ Said n → value_from 10 0 cs ≡ Said n
+said_value : (cs : List ℕ) (n : ℕ) → decimal_said cs ≡ Some n → value_from 10 0 cs ≡ Some n
 unfolding decimal_said
 said_value cs n = by_test (plain cs) (λ t. rw t (λ e. e)) (λ t. rw t (λ e. absurd_by (cc)))
 
@@ -275,6 +274,9 @@ pub decimal_fixed : (n : ℕ) → decimal n ≡ fixed 10 (length (decimal n)) n
 decimal_fixed n = fixed_snoc 10 (lit≤ tt) (snoc (decimal n)) (length (decimal n)) n refl (said_value (decimal n) n (decimal_read n))
 
 -- HOW LONG A DECIMAL IS
+pub decimal_below : (n : ℕ) → n < 10 ^ length (decimal n)
+decimal_below n = fixed_below 10 (snoc (decimal n)) (length (decimal n)) n refl (said_value (decimal n) n (decimal_read n))
+
 dec_long : (k n i : ℕ) → n < 10 ^ suc i → 10 ≤ n → ((j : ℕ) → n / 10 < 10 ^ suc j → length (decimal_in k (n / 10)) ≤ suc j) → length (decimal_in k (n / 10) ++ (char_of (n % 10) ∷ [])) ≤ suc i
 dec_long k n zero a b ih = absurd (omega arith)
 dec_long k n (suc i) a b ih =
@@ -295,7 +297,7 @@ unfolding decimal
 decimal_short j n h = dec_short (suc n) j n h
 
 -- A FIXED NUMBER OF DIGITS AT A PLACE: what is accepted are n digits, and the number is theirs
-pub digits_only : (text : List ℕ) (at n v : ℕ) → digits_at text at n ≡ Said v → ReadDigits text at n v
+pub digits_only : (text : List ℕ) (at n v : ℕ) → digits_at text at n ≡ Some v → ReadDigits text at n v
 unfolding digits_at fixed_in
 digits_only text at n v =
     by_test (leb 1 n && leb n 16)
@@ -312,17 +314,17 @@ digits_only text at n v =
     (λ t. rw t (λ e. absurd_by (cc)))
 
 -- n digits are accepted as their number
-pub digits_read : (text : List ℕ) (at n v : ℕ) → ReadDigits text at n v → digits_at text at n ≡ Said v
+pub digits_read : (text : List ℕ) (at n v : ℕ) → ReadDigits text at n v → digits_at text at n ≡ Some v
 unfolding digits_at
 digits_read text at n v r = rw (le-leb 1 n r.least, le-leb n 16 r.most, r.bytes) (fixed_read 10 n v (lit< tt) (lit≤ tt) r.below)
 
-digits_value : (a : ℕ) (cs : List ℕ) → all_digits cs ≡ true → (v : ℕ) × (value_from 10 a cs ≡ Said v)
+digits_value : (a : ℕ) (cs : List ℕ) → all_digits cs ≡ true → (v : ℕ) × (value_from 10 a cs ≡ Some v)
 unfolding all_digits value_from
 digits_value a [] e = (a, refl)
 digits_value a (c ∷ cs) e = rw (and_left (ltb (digit_of c) 10) (all_digits cs) e) (digits_value (a * 10 + digit_of c) cs (and_right (ltb (digit_of c) 10) (all_digits cs) e))
 
 -- whatever n digits they are
-pub digits_any : (text : List ℕ) (at n : ℕ) → 1 ≤ n → n ≤ 16 → at + n ≤ length text → all_digits (take n (drop at text)) ≡ true → (v : ℕ) × (digits_at text at n ≡ Said v)
+pub digits_any : (text : List ℕ) (at n : ℕ) → 1 ≤ n → n ≤ 16 → at + n ≤ length text → all_digits (take n (drop at text)) ≡ true → (v : ℕ) × (digits_at text at n ≡ Some v)
 unfolding digits_at fixed_in
 digits_any text at n l m k e =
     let t : length (take n (drop at text)) ≡ n = length-take-le n (drop at text) (let d = length-drop at text in omega arith) in

@@ -7,19 +7,19 @@ use native.Mathlib.Omega.{arith}
 use native.Mathlib.Numerals.{add-one}
 use native.Mathlib.Nat.{pow-suc, pow-le-pow_right, mul-le-mul_left, mul_assoc}
 use lib.ListN.{length, get_or, take, drop, length-append, length-take, length-drop, drop_of_length-le, take-append-drop}
-use lib.Seq.{drop-cons, drop-drop, get_or-take, get_or-drop, take_all}
+use lib.Seq.{drop-cons, drop-drop, take_all, length-take-le}
 use lib.Dec.{eqb, ltb, leb, lit<}
 use borrow.Author.Tests.{lt-ltb, le-ltb, ltb-true, eq-eqb, ne_eqb, eqb-true, eqb-false, le-leb, lt-leb, not-true, not-false}
+use Rattle.std.specs.Prelude.{slice_range, Option, Some, None, Result, Err}
 use Rattle.units.specs.Limits.{label_top}
 use Rattle.units.proofs.Every.{and_left, and_right}
 use Rattle.fields.specs.Digits.{pick, digit_of, digits_at, value_from, fixed_in}
 use Rattle.fields.specs.Text.{until, first_field, lacks, ends, starts, field_at, next_at}
 use Rattle.fields.specs.Field.{plain, decimal_said, said_by, fits, judge, read_field, read_at}
 use Rattle.fields.specs.Day.{day_judged, day_in, day_at}
-use Rattle.fields.specs.declared.digit.Digits.{Digits}
-use Rattle.fields.specs.declared.digit.Digits.TheVariants.{Said, Wrong}
+use Rattle.fields.specs.declared.field.Fault.{Fault}
 use Rattle.fields.specs.declared.field.Field.{Field}
-use Rattle.fields.specs.declared.field.Field.TheVariants.{Form}
+use Rattle.fields.specs.declared.field.Fault.TheVariants.{Form}
 use Rattle.fields.specs.declared.spelling.Spelling.{Spelling}
 use Rattle.fields.specs.declared.spelling.Spelling.TheVariants.{Decimal, Hex4, Hex16}
 use Rattle.fields.proofs.Cases.{by_test, by_lt, absurd_by}
@@ -74,38 +74,42 @@ module _ (text : List ℕ) (at : ℕ) (e : ends (drop at text) ≡ false) where
   plain_zero z = rw (first_open, z) (plain_nought (drop (at + 1) text))
 
 -- `digits_at`
-value_cons : (base n : ℕ) (f : List ℕ) (i : ℕ) → i < length f → value_from base n (drop i f) ≡ pick (ltb (digit_of (get_or f i 0)) base) (value_from base (n * base + digit_of (get_or f i 0)) (drop (i + 1) f)) Wrong
+value_cons : (base n : ℕ) (f : List ℕ) (i : ℕ) → i < length f → value_from base n (drop i f) ≡ pick (ltb (digit_of (get_or f i 0)) base) (value_from base (n * base + digit_of (get_or f i 0)) (drop (i + 1) f)) None
 unfolding value_from
 value_cons base n f i h = rw (add-one, drop-cons f i 0 h)
 
 -- the k bytes from a place on
-module _ (text : List ℕ) (at k base from : ℕ) (within : at + k ≤ length text) where
-  bytes_long : length (take k (drop at text)) ≡ k
-  bytes_long = simp (length-take, length-drop) (omega arith)
+pub bytes_long : (text : List ℕ) (at k : ℕ) → at + k ≤ length text → length (take k (drop at text)) ≡ k
+bytes_long text at k h = simp (length-take, length-drop) (omega arith)
 
-  pub digits_start : fixed_in base k from (take k (drop at text)) ≡ value_from base from (drop 0 (take k (drop at text)))
+pub bytes_got : (text g d : List ℕ) (at k : ℕ) → g ≡ slice_range text at (length text) → k ≤ length g → d ≡ slice_range g 0 k → (d ≡ take k (drop at text)) × (length d ≡ k)
+bytes_got text g d at k p h q =
+    let r : g ≡ drop at text = p ∙ take_all (length text - at) (drop at text) (let z = length-drop at text in omega arith) in
+    let z : k - 0 ≡ k = omega arith in
+    let s : d ≡ take k g = rw z at q in
+    (s ∙ ap (take k) r, ap length s ∙ length-take-le k g h)
+
+-- k bytes, gone over from the first
+module _ (f : List ℕ) (k base from : ℕ) where
+  pub digits_start : length f ≡ k → fixed_in base k from f ≡ value_from base from (drop 0 f)
   unfolding fixed_in
-  digits_start = rw (eq-eqb (length (take k (drop at text))) k bytes_long)
+  digits_start l = rw (eq-eqb (length f) k l)
 
-  module _ (n i d : ℕ) (inv : fixed_in base k from (take k (drop at text)) ≡ value_from base n (drop i (take k (drop at text)))) where
-    digits_step : i < k → d ≡ digit_of (get_or text (at + i) 0)
-        → fixed_in base k from (take k (drop at text)) ≡ pick (ltb d base) (value_from base (n * base + d) (drop (i + 1) (take k (drop at text)))) Wrong
-    digits_step h e =
-        let b : get_or (take k (drop at text)) i 0 ≡ get_or text (at + i) 0 = rw (get_or-take, get_or-drop) in
-        let l = bytes_long in
-        inv ∙ value_cons base n (take k (drop at text)) i (omega arith) ∙ rw (b, ← e)
+  module _ (n i d : ℕ) (inv : fixed_in base k from f ≡ value_from base n (drop i f)) where
+    digits_step : i < length f → d ≡ digit_of (get_or f i 0) → fixed_in base k from f ≡ pick (ltb d base) (value_from base (n * base + d) (drop (i + 1) f)) None
+    digits_step h e = inv ∙ value_cons base n f i h ∙ rw (← e)
 
-    pub digits_wrong : i < k → d ≡ digit_of (get_or text (at + i) 0) → base ≤ d → Wrong ≡ fixed_in base k from (take k (drop at text))
+    pub digits_wrong : i < length f → d ≡ digit_of (get_or f i 0) → base ≤ d → None ≡ fixed_in base k from f
     digits_wrong h e w = sym (digits_step h e ∙ rw (le-ltb d base w))
 
-    pub digits_again : i < k → d ≡ digit_of (get_or text (at + i) 0) → d < base → fixed_in base k from (take k (drop at text)) ≡ value_from base (n * base + d) (drop (i + 1) (take k (drop at text)))
+    pub digits_again : i < length f → d ≡ digit_of (get_or f i 0) → d < base → fixed_in base k from f ≡ value_from base (n * base + d) (drop (i + 1) f)
     digits_again h e w = digits_step h e ∙ rw (lt-ltb d base w)
 
-    pub digits_end : k ≤ i → Said n ≡ fixed_in base k from (take k (drop at text))
+    pub digits_end : length f ≤ i → Some n ≡ fixed_in base k from f
     unfolding value_from
-    digits_end h = let l = bytes_long in sym (inv ∙ rw (drop_of_length-le (take k (drop at text)) {i = i} (omega arith)))
+    digits_end h = sym (inv ∙ rw (drop_of_length-le f {i = i} h))
 
-pub digits_short : (text : List ℕ) (at k base from : ℕ) → 0 < k → length text < at + k → Wrong ≡ fixed_in base k from (take k (drop at text))
+pub digits_short : (text : List ℕ) (at k base from : ℕ) → 0 < k → length text < at + k → None ≡ fixed_in base k from (take k (drop at text))
 unfolding fixed_in
 digits_short text at k base from p h =
     let l : length (take k (drop at text)) < k = simp (length-take, length-drop) (omega arith) in
@@ -125,7 +129,7 @@ grown_fits from k i h f =
     omega arith
 
 -- FIXED WIDTH: the k bytes from a place on, and the field there
-digits_lack : (base n m : ℕ) (cs : List ℕ) → base ≤ 16 → value_from base n cs ≡ Said m → lacks 9 cs ≡ true
+digits_lack : (base n m : ℕ) (cs : List ℕ) → base ≤ 16 → value_from base n cs ≡ Some m → lacks 9 cs ≡ true
 unfolding value_from lacks
 digits_lack base n m [] b = λ e. refl
 digits_lack base n m (c ∷ cs) b =
@@ -136,24 +140,24 @@ digits_lack base n m (c ∷ cs) b =
     rw (ne_eqb c 9 (omega arith)) (digits_lack base (n * base + digit_of c) m cs b e)))
     (λ t. rw t (λ e. absurd_by (cc)))
 
-fixed_said : (base k n m : ℕ) (cs : List ℕ) → fixed_in base k n cs ≡ Said m → (length cs ≡ k) × (value_from base n cs ≡ Said m)
+fixed_said : (base k n m : ℕ) (cs : List ℕ) → fixed_in base k n cs ≡ Some m → (length cs ≡ k) × (value_from base n cs ≡ Some m)
 unfolding fixed_in
 fixed_said base k n m cs = by_test (eqb (length cs) k) (λ t. rw t (λ e. (eqb-true (length cs) k t, e))) (λ t. rw t (λ e. absurd_by (cc)))
 
-pub said_within : (text : List ℕ) (at base k n m : ℕ) → 0 < k → fixed_in base k n (take k (drop at text)) ≡ Said m → at + k ≤ length text
+pub said_within : (text : List ℕ) (at base k n m : ℕ) → 0 < k → fixed_in base k n (take k (drop at text)) ≡ Some m → at + k ≤ length text
 said_within text at base k n m p e =
     let l = simp (length-take, length-drop) at (fixed_said base k n m (take k (drop at text)) e).0 in
     omega arith
 
 module _ (base k n : ℕ) (cs : List ℕ) (b : base ≤ 16) where
-  field_wrong : fixed_in base k n (take k cs) ≡ Wrong → fixed_in base k n (first_field cs) ≡ Wrong
+  field_wrong : fixed_in base k n (take k cs) ≡ None → fixed_in base k n (first_field cs) ≡ None
   unfolding fixed_in
   field_wrong e =
       by_test (eqb (length (first_field cs)) k)
       (λ t. let q : take k cs ≡ first_field cs = rw (eqb-true (length (first_field cs)) k t) at (until_take 9 cs) in rw q at e)
       (λ t. rw t)
 
-  module _ (m : ℕ) (e : fixed_in base k n (take k cs) ≡ Said m) where
+  module _ (m : ℕ) (e : fixed_in base k n (take k cs) ≡ Some m) where
     first_joined : first_field cs ≡ take k cs ++ first_field (drop k cs)
     first_joined =
         ap first_field (sym (take-append-drop k cs))
@@ -165,10 +169,10 @@ module _ (base k n : ℕ) (cs : List ℕ) (b : base ≤ 16) where
     field_long : ends (drop k cs) ≡ true → length (first_field cs) ≡ k
     field_long t = first_long ∙ rw (first_none (drop k cs) t) (omega arith)
 
-    field_said : ends (drop k cs) ≡ true → fixed_in base k n (first_field cs) ≡ Said m
+    field_said : ends (drop k cs) ≡ true → fixed_in base k n (first_field cs) ≡ Some m
     field_said t = rw (first_joined, first_none (drop k cs) t, append-nil (take k cs)) e
 
-    field_more : ends (drop k cs) ≡ false → fixed_in base k n (first_field cs) ≡ Wrong
+    field_more : ends (drop k cs) ≡ false → fixed_in base k n (first_field cs) ≡ None
     unfolding fixed_in
     field_more t =
         let s = first_some (drop k cs) t in
@@ -179,22 +183,22 @@ module _ (base k n : ℕ) (cs : List ℕ) (b : base ≤ 16) where
 pub hex_room : (k : ℕ) → k ≤ 16 → (0 + 1) * 16 ^ k ≤ 2 ^ 64
 hex_room k h = let p = pow-le-pow_right {n = 16} (lit< tt) {i = k} {j = 16} h in omega arith
 
-pub hex_within : (text : List ℕ) (at k n : ℕ) (d : Digits) → 0 < k → d ≡ fixed_in 16 k 0 (take k (drop at text)) → d ≡ Said n → at + k ≤ length text
+pub hex_within : (text : List ℕ) (at k n : ℕ) (d : Option ℕ) → 0 < k → d ≡ fixed_in 16 k 0 (take k (drop at text)) → d ≡ Some n → at + k ≤ length text
 hex_within text at k n d p q e = said_within text at 16 k 0 n p (sym q ∙ e)
 
-pub judged_wrong : (sp : Spelling) (low high next : ℕ) (d : Digits) → d ≡ Wrong → Form ≡ judge sp low high next d
+pub judged_wrong : (sp : Spelling) (low high next : ℕ) (d : Option ℕ) → d ≡ None → Err Form ≡ judge sp low high next d
 unfolding judge
 judged_wrong sp low high next d e = rw e
 
 module _ (text : List ℕ) (at k : ℕ) (sp : Spelling) (low high : ℕ) where
-  pub hex_wrong : (d : Digits) → d ≡ fixed_in 16 k 0 (take k (drop at text)) → d ≡ Wrong → Form ≡ judge sp low high (next_at text at) (fixed_in 16 k 0 (field_at text at))
+  pub hex_wrong : (d : Option ℕ) → d ≡ fixed_in 16 k 0 (take k (drop at text)) → d ≡ None → Err Form ≡ judge sp low high (next_at text at) (fixed_in 16 k 0 (field_at text at))
   hex_wrong d p e = judged_wrong sp low high (next_at text at) _ (field_wrong 16 k 0 (drop at text) (omega arith) (sym p ∙ e))
 
-  module _ (d : Digits) (n : ℕ) (p : d ≡ fixed_in 16 k 0 (take k (drop at text))) (e : d ≡ Said n) (b : Bool) (q : b ≡ ends (drop (at + k) text)) where
-    pub hex_more : b ≡ false → Form ≡ judge sp low high (next_at text at) (fixed_in 16 k 0 (field_at text at))
+  module _ (d : Option ℕ) (n : ℕ) (p : d ≡ fixed_in 16 k 0 (take k (drop at text))) (e : d ≡ Some n) (b : Bool) (q : b ≡ ends (drop (at + k) text)) where
+    pub hex_more : b ≡ false → Err Form ≡ judge sp low high (next_at text at) (fixed_in 16 k 0 (field_at text at))
     hex_more t = judged_wrong sp low high (next_at text at) _ (field_more 16 k 0 (drop at text) (omega arith) n (sym p ∙ e) (rw (drop-drop k at text) (sym q ∙ t)))
 
-    pub hex_said : b ≡ true → (r : Field) → r ≡ judge sp low high (at + k + 1) (Said n) → r ≡ judge sp low high (next_at text at) (fixed_in 16 k 0 (field_at text at))
+    pub hex_said : b ≡ true → (r : Result Field Fault) → r ≡ judge sp low high (at + k + 1) (Some n) → r ≡ judge sp low high (next_at text at) (fixed_in 16 k 0 (field_at text at))
     hex_said t r j =
         let s : ends (drop k (drop at text)) ≡ true = rw (drop-drop k at text) (sym q ∙ t) in
         let l = field_long 16 k 0 (drop at text) (omega arith) n (sym p ∙ e) s in
@@ -215,7 +219,7 @@ and_false true true = refl
 and_false true false = refl
 and_false false b = refl
 
-judge_near : (low high next m n : ℕ) → m ≤ n → (m ≤ label_top → m ≡ n) → judge Decimal low high next (Said m) ≡ judge Decimal low high next (Said n)
+judge_near : (low high next m n : ℕ) → m ≤ n → (m ≤ label_top → m ≡ n) → judge Decimal low high next (Some m) ≡ judge Decimal low high next (Some n)
 unfolding judge fits
 judge_near low high next m n l s =
     by_lt label_top m
@@ -230,12 +234,12 @@ plain_within text at b p t =
 pub ends_tab : (text : List ℕ) (i : ℕ) → i < length text → get_or text i 0 ≡ 9 → ends (drop i text) ≡ true
 ends_tab text i h e = sym (ends_some text i h) ∙ eq-eqb (get_or text i 0) 9 e
 
-pub decimal_form : (text : List ℕ) (at low high : ℕ) (b : Bool) → b ≡ plain (field_at text at) → not b ≡ true → Form ≡ read_at text at Decimal low high
+pub decimal_form : (text : List ℕ) (at low high : ℕ) (b : Bool) → b ≡ plain (field_at text at) → not b ≡ true → Err Form ≡ read_at text at Decimal low high
 unfolding read_at read_field said_by decimal_said
 decimal_form text at low high b p t = judged_wrong Decimal low high (next_at text at) _ (rw (← p, not-true b t))
 
 module _ (text f : List ℕ) (m i : ℕ) (r : Reading f (drop i text) m) (h : i < length text) (n : get_or text i 0 ≡ 9 → ⊥) (d : ℕ) (e : d ≡ digit_of (get_or text i 0)) where
-  value_next : value_from 10 r.exact (field_at text i) ≡ pick (ltb d 10) (value_from 10 (r.exact * 10 + d) (field_at text (i + 1))) Wrong
+  value_next : value_from 10 r.exact (field_at text i) ≡ pick (ltb d 10) (value_from 10 (r.exact * 10 + d) (field_at text (i + 1))) None
   unfolding value_from
   value_next = rw (field_next text i h n, ← e)
 
@@ -257,7 +261,7 @@ module _ (text : List ℕ) (at low high : ℕ) (b : Bool) (p : b ≡ plain (fiel
   unfolding decimal_said
   decimal_is = rw (← p, not-false b t) r.says
 
-  pub decimal_value : (g : Field) → at + length (field_at text at) ≡ i + length (field_at text i) → ends (drop i text) ≡ true → g ≡ judge Decimal low high (i + 1) (Said m) → g ≡ read_at text at Decimal low high
+  pub decimal_value : (g : Result Field Fault) → at + length (field_at text at) ≡ i + length (field_at text i) → ends (drop i text) ≡ true → g ≡ judge Decimal low high (i + 1) (Some m) → g ≡ read_at text at Decimal low high
   unfolding read_at read_field said_by value_from
   decimal_value g long e j =
       let n = first_none (drop i text) e in
@@ -265,13 +269,13 @@ module _ (text : List ℕ) (at low high : ℕ) (b : Bool) (p : b ≡ plain (fiel
       let q : at + length (field_at text at) + 1 ≡ i + 1 = omega arith in
       rw (q, decimal_is, n) (j ∙ judge_near low high (i + 1) m r.exact r.least r.same)
 
-  pub decimal_wrong : i < length text → (get_or text i 0 ≡ 9 → ⊥) → (d : ℕ) → d ≡ digit_of (get_or text i 0) → 9 < d → Form ≡ read_at text at Decimal low high
+  pub decimal_wrong : i < length text → (get_or text i 0 ≡ 9 → ⊥) → (d : ℕ) → d ≡ digit_of (get_or text i 0) → 9 < d → Err Form ≡ read_at text at Decimal low high
   unfolding read_at read_field said_by
   decimal_wrong h n d e w =
       judged_wrong Decimal low high (next_at text at) _ (decimal_is ∙ value_next text (field_at text at) m i r h n d e ∙ rw (le-ltb d 10 (omega arith)))
 
 -- `read_at`
-module _ (text : List ℕ) (at low high : ℕ) (sp : Spelling) (r : Field) where
+module _ (text : List ℕ) (at low high : ℕ) (sp : Spelling) (r : Result Field Fault) where
   pub read_same : (tp : Spelling) → sp ≡ tp → r ≡ read_at text at tp low high → r ≡ read_at text at sp low high
   read_same tp e j = rw e j
 
@@ -312,15 +316,15 @@ digit_letter b h k e =
     rw (le-ltb b 48 h1, le-ltb b 58 k, rw (lt-ltb 57 b h2) at e, lt-ltb b 71 h3)
 
 -- `read_digits`
-pub digits_few : (text : List ℕ) (at n : ℕ) → n < 1 → Wrong ≡ digits_at text at n
+pub digits_few : (text : List ℕ) (at n : ℕ) → n < 1 → None ≡ digits_at text at n
 unfolding digits_at
 digits_few text at n h = rw (lt-leb 1 n h)
 
-pub digits_many : (text : List ℕ) (at n : ℕ) → 16 < n → Wrong ≡ digits_at text at n
+pub digits_many : (text : List ℕ) (at n : ℕ) → 16 < n → None ≡ digits_at text at n
 unfolding digits_at
 digits_many text at n h = rw (le-leb 1 n (omega arith), lt-leb n 16 h)
 
-pub digits_made : (text : List ℕ) (at n : ℕ) (r : Digits) → 1 ≤ n → n ≤ 16 → r ≡ fixed_in 10 n 0 (take n (drop at text)) → r ≡ digits_at text at n
+pub digits_made : (text : List ℕ) (at n : ℕ) (r : Option ℕ) → 1 ≤ n → n ≤ 16 → r ≡ fixed_in 10 n 0 (take n (drop at text)) → r ≡ digits_at text at n
 unfolding digits_at
 digits_made text at n r l m e = rw (le-leb 1 n l, le-leb n 16 m) e
 
@@ -329,45 +333,45 @@ eight : (text : List ℕ) (at : ℕ) → digits_at text at 8 ≡ fixed_in 10 8 0
 unfolding digits_at
 eight text at = refl
 
-day_form : (next : ℕ) (d : Digits) → d ≡ Wrong → Form ≡ day_judged next d
+day_form : (next : ℕ) (d : Option ℕ) → d ≡ None → Err Form ≡ day_judged next d
 unfolding day_judged
 day_form next d e = rw e
 
-module _ (text : List ℕ) (at : ℕ) (d : Digits) (p : d ≡ digits_at text at 8) where
+module _ (text : List ℕ) (at : ℕ) (d : Option ℕ) (p : d ≡ digits_at text at 8) where
   q : d ≡ fixed_in 10 8 0 (take 8 (drop at text))
   q = p ∙ eight text at
 
-  pub day_within : (n : ℕ) → d ≡ Said n → at + 8 ≤ length text
+  pub day_within : (n : ℕ) → d ≡ Some n → at + 8 ≤ length text
   day_within n e = said_within text at 10 8 0 n (lit< tt) (sym q ∙ e)
 
-  pub day_wrong : d ≡ Wrong → Form ≡ day_at text at
+  pub day_wrong : d ≡ None → Err Form ≡ day_at text at
   unfolding day_in
   day_wrong e = day_form (next_at text at) _ (field_wrong 10 8 0 (drop at text) (omega arith) (sym q ∙ e))
 
-  module _ (n : ℕ) (e : d ≡ Said n) (b : Bool) (z : b ≡ ends (drop (at + 8) text)) where
-    pub day_more : b ≡ false → Form ≡ day_at text at
+  module _ (n : ℕ) (e : d ≡ Some n) (b : Bool) (z : b ≡ ends (drop (at + 8) text)) where
+    pub day_more : b ≡ false → Err Form ≡ day_at text at
     unfolding day_in
     day_more t = day_form (next_at text at) _ (field_more 10 8 0 (drop at text) (omega arith) n (sym q ∙ e) (rw (drop-drop 8 at text) (sym z ∙ t)))
 
-    pub day_said : b ≡ true → (r : Field) → r ≡ day_judged (at + 8 + 1) (Said n) → r ≡ day_at text at
+    pub day_said : b ≡ true → (r : Result Field Fault) → r ≡ day_judged (at + 8 + 1) (Some n) → r ≡ day_at text at
     unfolding day_in
     day_said t r j =
         let s : ends (drop 8 (drop at text)) ≡ true = rw (drop-drop 8 at text) (sym z ∙ t) in
         let l = field_long 10 8 0 (drop at text) (omega arith) n (sym q ∙ e) s in
         rw (l, field_said 10 8 0 (drop at text) (omega arith) n (sym q ∙ e) s) j
 
-pub whole_short : (text : List ℕ) → (length text ≡ 8 → ⊥) → Form ≡ day_in 0 text
+pub whole_short : (text : List ℕ) → (length text ≡ 8 → ⊥) → Err Form ≡ day_in 0 text
 unfolding day_in fixed_in
 whole_short text h = day_form 0 _ (rw (ne_eqb (length text) 8 h))
 
-module _ (text : List ℕ) (l : length text ≡ 8) (d : Digits) (p : d ≡ digits_at text 0 8) where
+module _ (text : List ℕ) (l : length text ≡ 8) (d : Option ℕ) (p : d ≡ digits_at text 0 8) where
   all : d ≡ fixed_in 10 8 0 text
   all = p ∙ eight text 0 ∙ ap (fixed_in 10 8 0) (take_all 8 text (omega arith))
 
-  pub whole_wrong : d ≡ Wrong → Form ≡ day_in 0 text
+  pub whole_wrong : d ≡ None → Err Form ≡ day_in 0 text
   unfolding day_in
   whole_wrong e = day_form 0 _ (sym all ∙ e)
 
-  pub whole_said : (n : ℕ) → d ≡ Said n → (r : Field) → r ≡ day_judged 0 (Said n) → r ≡ day_in 0 text
+  pub whole_said : (n : ℕ) → d ≡ Some n → (r : Result Field Fault) → r ≡ day_judged 0 (Some n) → r ≡ day_in 0 text
   unfolding day_in
   whole_said n e r j = j ∙ ap (day_judged 0) (sym e ∙ all)

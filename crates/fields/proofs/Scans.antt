@@ -56,9 +56,11 @@ pub scan_feed : (line : List ℕ) (i tabs : ℕ) → Passed line i tabs → i < 
 unfolding until
 scan_feed line i tabs p h e = scan_is line i tabs p (rw (drop-cons line i 0 h, eq-eqb (get_or line i 0) 10 e))
 
-pub scan_end : (line : List ℕ) (i tabs : ℕ) → Passed line i tabs → length line ≤ i → record { tabs = tabs; feed = i } ≡ scanned line
+pub scan_end : (line : List ℕ) (i tabs : ℕ) → Passed line i tabs → length line ≤ i → record { tabs = tabs; feed = length line } ≡ scanned line
 unfolding until
-scan_end line i tabs p h = scan_is line i tabs p (rw (drop_of_length-le line h))
+scan_end line i tabs p h =
+    let q : i ≡ length line = let k = p.here in omega arith in
+    rw q at (scan_is line i tabs p (rw (drop_of_length-le line h)))
 
 module _ (line : List ℕ) (i tabs : ℕ) (p : Passed line i tabs) (h : i < length line) (n : get_or line i 0 ≡ 10 → ⊥) where
   until_next : until 10 (drop i line) ≡ get_or line i 0 ∷ until 10 (drop (i + 1) line)

@@ -1,28 +1,27 @@
 -- THE LAWS OF A FIELD, for every spelling: what is accepted is spelled in the one way, and what is spelled so is read back. Assumes nothing.
 use Prim.Native.Nat.{ℕ, zero, suc, ◌+◌, ◌*◌, ◌/◌, ◌%◌, ◌≤◌, ◌<◌}
-use mathlib.Core.Path.{◌≡◌, refl, ap, ◌∙◌}
+use mathlib.Core.Path.{◌≡◌, refl, sym, ap, ◌∙◌}
 use mathlib.Core.List.{List, [], ◌∷◌, ◌++◌}
 use mathlib.Core.Bool.{true, ◌&&◌}
 use native.Mathlib.Omega.{arith}
 use lib.ListN.{length, get_or, drop, length-append}
 use lib.Dec.{eqb, leb, ltb, lit<, lit≤}
 use borrow.Author.Tests.{eqb-true, ne_eqb, leb-true, le-leb}
+use Rattle.std.specs.Prelude.{Option, Some, None, Err}
 use Rattle.units.specs.Limits.{factor_digits, factor_low, factor_top}
 use Rattle.units.proofs.Every.{and_left, and_right}
 use Rattle.fields.specs.Digits.{char_of, fixed_in, fixed, decimal_in, decimal, digit_of, value_from}
 use Rattle.fields.specs.Text.{lacks, ends, field_at, next_at, until}
-use Rattle.fields.specs.Field.{point, factor_said, said_by, pointed, spelled, limit, fits, judge, read_field, read_at}
-use Rattle.fields.specs.declared.digit.Digits.{Digits}
-use Rattle.fields.specs.declared.digit.Digits.TheVariants.{Said, Wrong}
+use Rattle.fields.specs.Field.{value, point, factor_said, said_by, pointed, spelled, limit, fits, judge, read_field, read_at}
+use Rattle.fields.specs.declared.field.Fault.TheVariants.{Form, Range}
 use Rattle.fields.specs.declared.spelling.Spelling.{Spelling}
 use Rattle.fields.specs.declared.spelling.Spelling.TheVariants.{Decimal, Hex4, Hex16, Factor}
-use Rattle.fields.specs.declared.field.Field.TheVariants.{Value, Form, Range}
-use Rattle.fields.proofs.Cases.{by_test, by_lt, absurd_by}
+use Rattle.fields.proofs.Cases.{by_test, by_lt, absurd_by, value_same}
 use Rattle.fields.proofs.Numbers.{char_above, fixed_length, fixed_read, fixed_only, decimal_small, decimal_large, decimal_read, decimal_only, decimal_short}
 use Rattle.fields.proofs.Texts.{lacks_append, first_is}
 
 -- FACTORS
-factor_only : (cs : List ℕ) (n : ℕ) → factor_said cs ≡ Said n → cs ≡ pointed (fixed 10 (suc factor_digits) n)
+factor_only : (cs : List ℕ) (n : ℕ) → factor_said cs ≡ Some n → cs ≡ pointed (fixed 10 (suc factor_digits) n)
 unfolding factor_said pointed
 factor_only [] n = λ e. absurd_by (cc)
 factor_only (c ∷ []) n = λ e. absurd_by (cc)
@@ -37,14 +36,14 @@ factor_pointed [] k e = absurd (omega arith)
 factor_pointed (c ∷ cs) k e = refl
 
 -- THE EXACT NUMBER
-spelled_only : (sp : Spelling) (cs : List ℕ) (n : ℕ) → said_by sp cs ≡ Said n → cs ≡ spelled sp n
+spelled_only : (sp : Spelling) (cs : List ℕ) (n : ℕ) → said_by sp cs ≡ Some n → cs ≡ spelled sp n
 unfolding said_by spelled
 spelled_only Decimal cs n e = decimal_only cs n e
 spelled_only Hex4 cs n e = fixed_only 16 4 cs n (lit≤ tt) e
 spelled_only Hex16 cs n e = fixed_only 16 16 cs n (lit≤ tt) e
 spelled_only Factor cs n e = factor_only cs n e
 
-spelled_read : (sp : Spelling) (n : ℕ) → n ≤ limit sp → said_by sp (spelled sp n) ≡ Said n
+spelled_read : (sp : Spelling) (n : ℕ) → n ≤ limit sp → said_by sp (spelled sp n) ≡ Some n
 unfolding said_by spelled
 spelled_read Decimal n h = decimal_read n
 spelled_read Hex4 n h = fixed_read 16 4 n (lit< tt) (lit≤ tt) (omega arith)
@@ -79,23 +78,23 @@ pub record Accepted (sp : Spelling) (low high next : ℕ) (cs : List ℕ) (n m :
   pub inside : fits sp low high n ≡ true
   pub after : m ≡ next
 
-judge_only : (sp : Spelling) (low high next : ℕ) (cs : List ℕ) (d : Digits) (n m : ℕ) → said_by sp cs ≡ d → judge sp low high next d ≡ Value n m → Accepted sp low high next cs n m
+judge_only : (sp : Spelling) (low high next : ℕ) (cs : List ℕ) (d : Option ℕ) (n m : ℕ) → said_by sp cs ≡ d → judge sp low high next d ≡ value n m → Accepted sp low high next cs n m
 unfolding judge
-judge_only sp low high next cs (Said k) n m p =
+judge_only sp low high next cs (Some k) n m p =
     by_test (fits sp low high k)
     (λ t. rw t (λ e.
-    let q : k ≡ n = cc in
-    record { spelt = rw q at (spelled_only sp cs k p); inside = rw q at t; after = cc }))
+    let (q, o) = value_same e in
+    record { spelt = rw q at (spelled_only sp cs k p); inside = rw q at t; after = sym o }))
     (λ t. rw t (λ e. absurd_by (cc)))
-judge_only sp low high next cs Wrong n m p = λ e. absurd_by (cc)
+judge_only sp low high next cs None n m p = λ e. absurd_by (cc)
 
 -- whatever is accepted as n is the one spelling of n, and in range
-pub field_only : (sp : Spelling) (low high next : ℕ) (cs : List ℕ) (n m : ℕ) → read_field sp low high next cs ≡ Value n m → Accepted sp low high next cs n m
+pub field_only : (sp : Spelling) (low high next : ℕ) (cs : List ℕ) (n m : ℕ) → read_field sp low high next cs ≡ value n m → Accepted sp low high next cs n m
 unfolding read_field
 field_only sp low high next cs n m e = judge_only sp low high next cs (said_by sp cs) n m refl e
 
 -- the spelling of every number in range is read as that number
-pub field_read : (sp : Spelling) (low high next n : ℕ) → fits sp low high n ≡ true → read_field sp low high next (spelled sp n) ≡ Value n next
+pub field_read : (sp : Spelling) (low high next n : ℕ) → fits sp low high n ≡ true → read_field sp low high next (spelled sp n) ≡ value n next
 unfolding read_field judge
 field_read sp low high next n f = rw (spelled_read sp n (fits_range sp low high n f).can, f)
 
@@ -168,19 +167,19 @@ spelled_short Hex16 n h = let l = fixed_length 16 16 n in omega arith
 spelled_short Factor n h = let l = pointed_long (fixed 10 (suc factor_digits) n) factor_digits (fixed_length 10 (suc factor_digits) n) in omega arith
 
 -- AT A PLACE OF A TEXT
-pub read_only : (text : List ℕ) (at : ℕ) (sp : Spelling) (low high n next : ℕ) → read_at text at sp low high ≡ Value n next → Accepted sp low high (next_at text at) (field_at text at) n next
+pub read_only : (text : List ℕ) (at : ℕ) (sp : Spelling) (low high n next : ℕ) → read_at text at sp low high ≡ value n next → Accepted sp low high (next_at text at) (field_at text at) n next
 unfolding read_at
 read_only text at sp low high n next e = field_only sp low high (next_at text at) (field_at text at) n next e
 
 -- a spelling before a tab or the end is read whole, and the next field starts one past it
 pub read_back : (text : List ℕ) (at : ℕ) (sp : Spelling) (low high n : ℕ) (rest : List ℕ) → drop at text ≡ spelled sp n ++ rest → ends rest ≡ true → fits sp low high n ≡ true
-    → read_at text at sp low high ≡ Value n (at + length (spelled sp n) + 1)
+    → read_at text at sp low high ≡ value n (at + length (spelled sp n) + 1)
 unfolding read_at
 read_back text at sp low high n rest d r f =
     rw (d, first_is (spelled sp n) rest (spelled_lacks 9 sp n (lit< tt)) r) (field_read sp low high (at + length (spelled sp n) + 1) n f)
 
 -- "1.0047 is read, 1.00 is refused. It is held as 10047."
-pub read_factors : (read_at (49 ∷ 46 ∷ 48 ∷ 48 ∷ 52 ∷ 55 ∷ []) 0 Factor factor_low factor_top ≡ Value 10047 7) × (read_at (49 ∷ 46 ∷ 48 ∷ 48 ∷ []) 0 Factor factor_low factor_top ≡ Form)
+pub read_factors : (read_at (49 ∷ 46 ∷ 48 ∷ 48 ∷ 52 ∷ 55 ∷ []) 0 Factor factor_low factor_top ≡ value 10047 7) × (read_at (49 ∷ 46 ∷ 48 ∷ 48 ∷ []) 0 Factor factor_low factor_top ≡ Err Form)
 unfolding read_at read_field judge fits said_by factor_said fixed_in value_from digit_of until
 read_factors = (refl, refl)
 
@@ -195,8 +194,8 @@ unfolding digit_of ends
 paper_factor = (refl, refl, refl, refl, refl, refl, refl, refl)
 
 -- 1.00 before a tab, 1.0o47 and 1.00470 for their form, 1.1001 for its range; a tab and the letter are no digits
-pub paper_refused : (digit_of 9 ≡ 16) × (read_at (49 ∷ 46 ∷ 48 ∷ 48 ∷ 9 ∷ 49 ∷ []) 0 Factor factor_low factor_top ≡ Form)
-    × (digit_of 111 ≡ 16) × (read_at (49 ∷ 46 ∷ 48 ∷ 111 ∷ 52 ∷ 55 ∷ []) 0 Factor factor_low factor_top ≡ Form)
-    × (read_at (49 ∷ 46 ∷ 48 ∷ 48 ∷ 52 ∷ 55 ∷ 48 ∷ []) 0 Factor factor_low factor_top ≡ Form) × (read_at (49 ∷ 46 ∷ 49 ∷ 48 ∷ 48 ∷ 49 ∷ []) 0 Factor factor_low factor_top ≡ Range)
+pub paper_refused : (digit_of 9 ≡ 16) × (read_at (49 ∷ 46 ∷ 48 ∷ 48 ∷ 9 ∷ 49 ∷ []) 0 Factor factor_low factor_top ≡ Err Form)
+    × (digit_of 111 ≡ 16) × (read_at (49 ∷ 46 ∷ 48 ∷ 111 ∷ 52 ∷ 55 ∷ []) 0 Factor factor_low factor_top ≡ Err Form)
+    × (read_at (49 ∷ 46 ∷ 48 ∷ 48 ∷ 52 ∷ 55 ∷ 48 ∷ []) 0 Factor factor_low factor_top ≡ Err Form) × (read_at (49 ∷ 46 ∷ 49 ∷ 48 ∷ 48 ∷ 49 ∷ []) 0 Factor factor_low factor_top ≡ Err Range)
 unfolding read_at read_field judge fits said_by factor_said fixed_in value_from digit_of until
 paper_refused = (refl, refl, refl, refl, refl, refl)

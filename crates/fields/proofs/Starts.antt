@@ -8,8 +8,7 @@ use lib.ListN.{length, take, drop, length-append, length-drop}
 use lib.Seq.{drop-drop}
 use lib.Dec.{ltb}
 use Rattle.fields.specs.Digits.{digit_of, digits_of}
-use Rattle.fields.specs.Field.{spelled, fits, start_of, read_here}
-use Rattle.fields.specs.declared.field.Field.TheVariants.{Value}
+use Rattle.fields.specs.Field.{value, spelled, fits, start_of, read_here}
 use Rattle.fields.specs.declared.spelling.Spelling.{Spelling}
 use Rattle.fields.specs.declared.spelling.Spelling.TheVariants.{Decimal, Hex4, Hex16, Factor}
 use Rattle.fields.proofs.Cases.{by_test}
@@ -39,7 +38,7 @@ pub record Stands (text : List ℕ) (at : ℕ) (sp : Spelling) (low high n next 
   pub after : next ≡ at + length (spelled sp n)
   pub within : next ≤ length text
 
-pub here_only : (text : List ℕ) (at : ℕ) (sp : Spelling) (low high n next : ℕ) → read_here text at sp low high ≡ Value n next → Stands text at sp low high n next
+pub here_only : (text : List ℕ) (at : ℕ) (sp : Spelling) (low high n next : ℕ) → read_here text at sp low high ≡ value n next → Stands text at sp low high n next
 unfolding read_here
 here_only text at sp low high n next e =
     let o = field_only sp low high (at + length (start_of sp (drop at text))) (start_of sp (drop at text)) n next e in

@@ -1,12 +1,13 @@
 -- What the functions that write a number need, over plain lists and numbers. Assumes nothing.
-use Prim.Native.Nat.{ℕ, zero, suc, ◌+◌, ◌-◌, ◌/◌, ◌%◌, ◌≤◌, ◌<◌}
+use Prim.Native.Nat.{ℕ, zero, suc, ◌+◌, ◌-◌, ◌*◌, ◌/◌, ◌%◌, ◌^◌, ◌≤◌, ◌<◌, max}
+use native.Mathlib.Nat.{pow-suc, pow-le-pow_right}
 use mathlib.Core.Path.{◌≡◌, refl, sym, ap, ◌∙◌}
 use mathlib.Core.List.{List, [], ◌∷◌, ◌++◌, append_assoc, append-nil}
 use mathlib.Core.Bool.{Bool, true, false, not}
 use native.Mathlib.Omega.{arith}
-use native.Mathlib.Numerals.{add-one}
-use lib.ListN.{length, get_or, take, set, length-append, length-set}
-use lib.Seq.{sets, take-suc, take_all, length-take-le}
+use lib.ListN.{length, take, drop, set}
+use lib.Seq.{sets, sets-eq, drop-drop}
+use borrow.Rule.Slice.PartMut.{post_of, put_mid}
 use lib.Dec.{leb, lit<}
 use borrow.Author.Tests.{le-leb, lt-leb, leb-true, leb-false, lt-ltb, le-ltb, not-true, not-false}
 use Rattle.units.specs.Limits.{factor_digits, factor_scale}
@@ -16,9 +17,9 @@ use Rattle.fields.specs.Put.{put, put_end, written}
 use Rattle.fields.specs.declared.spelling.Spelling.{Spelling}
 use Rattle.fields.specs.declared.spelling.Spelling.TheVariants.{Decimal, Hex4, Hex16, Factor}
 use Rattle.fields.proofs.Cases.{by_lt}
-use Rattle.fields.proofs.Numbers.{fixed_length, fixed_top, decimal_small, decimal_large, decimal_fixed}
+use Rattle.fields.proofs.Numbers.{fixed_length, fixed_top, decimal_small, decimal_below, decimal_short, decimal_fixed}
 use Rattle.fields.proofs.Spellings.{pointed_long}
-use Rattle.fields.proofs.Puts.{sets_append, set_sets, put_room, end_room, put_none, end_none, put_empty, end_empty, written_is, written_none}
+use Rattle.fields.proofs.Puts.{set_sets, put_room, end_room, put_none, end_none, put_empty, end_empty, written_is, written_none}
 
 -- `byte_of`
 pub byte_decimal : (d : ℕ) → d < 10 → 48 + d ≡ char_of d
@@ -56,39 +57,37 @@ put_done l d at r s h p q = (p ∙ sym (end_room l at s h), q ∙ sym (put_room 
 pub put_nothing : (l : List ℕ) (at : ℕ) (s : List ℕ) → s ≡ [] → (at ≡ put_end l at s) × (l ≡ put l at s)
 put_nothing l at s e = rw e (sym (end_empty l at), sym (put_empty l at))
 
--- `put_part`
-pub part_again : (o l s : List ℕ) (at i : ℕ) → i < length s → o ≡ sets l at (take i s) → set o (at + i) (get_or s i 0) ≡ sets l at (take (i + 1) s)
-part_again o l s at i h e =
-    let m : i ≤ length s = omega arith in
-    let t = length-take-le i s m in
-    let q : at + i ≡ at + length (take i s) = omega arith in
-    rw (e, add-one i, take-suc s i 0 h, q) (sets_append (take i s) (get_or s i 0 ∷ []) l at)
+-- `put_part`: the part of the buffer that s is copied over
+pub part_copied : (l s w : List ℕ) (at : ℕ) → at + length s ≤ length l → w ≡ s → put_mid at (at + length s - at) l w ≡ sets l at s
+part_copied l s w at h e = rw (e, sets-eq s l at h) (rest ∙ sym (append_assoc (take at l) s (drop (at + length s) l)))
+  where
+    past : post_of at (at + length s - at) l ≡ drop (at + length s) l
+    past = drop-drop (at + length s - at) at l ∙ ap (λ (k : ℕ). drop k l) (let z : at + (at + length s - at) ≡ at + length s = omega arith in z)
 
-pub part_end : (o l s : List ℕ) (at i : ℕ) → length s ≤ i → o ≡ sets l at (take i s) → o ≡ sets l at s
-part_end o l s at i h e = e ∙ rw (take_all i s h)
+    rest : put_mid at (at + length s - at) l s ≡ take at l ++ (s ++ drop (at + length s) l)
+    rest = ap (λ (v : List ℕ). take at l ++ (s ++ v)) past
 
--- `decimal_width`
-pub width_again : (n m k : ℕ) → 10 ≤ m → length (decimal n) + 1 ≡ k + length (decimal m) → length (decimal n) + 1 ≡ k + 1 + length (decimal (m / 10))
-width_again n m k h e =
-    let l = ap length (decimal_large m h) ∙ length-append (decimal (m / 10)) (char_of (m % 10) ∷ []) in
-    omega arith
+-- `decimal_width`: by the power of ten that n reaches
+pub width_power : (n m r : ℕ) → m ≡ max n 1 → 10 ^ r ≤ m → m < 10 * 10 ^ r → r + 1 ≡ length (decimal n)
+width_power n m r e l h =
+    let s : n < 10 ^ suc r = let p = pow-suc 10 r in omega arith in
+    let a = decimal_short r n s in
+    by_lt r (length (decimal n)) (λ g. omega arith) (λ g.
+    let b = decimal_below n in
+    let p = pow-le-pow_right {n = 10} (lit< tt) {i = length (decimal n)} {j = r} g in
+    let q : n ≡ 0 = omega arith in
+    let d : length (decimal n) ≡ 1 = ap {B = ℕ} length (decimal_small n (omega arith)) in
+    let u = pow-le-pow_right {n = 10} (lit< tt) {i = 1} {j = r} (omega arith) in
+    absurd (omega arith))
 
-pub width_end : (n m k : ℕ) → m < 10 → length (decimal n) + 1 ≡ k + length (decimal m) → k ≡ length (decimal n)
-width_end n m k h e = let l = ap length (decimal_small m h) in omega arith
-
--- `put_decimal` and `put_hex`: b is l with the last digits of n put, down to i, and m is what is left of n
+-- `put_fixed`: b is l with the last digits of n put, and left of n are m and its i places
 pub record Left (base k n : ℕ) (l : List ℕ) (at : ℕ) (b : List ℕ) (i m : ℕ) : Type 0 where
   pub tail : List ℕ
-  pub low : at ≤ i
-  pub high : i ≤ at + k
-  pub whole : fixed base k n ≡ fixed base (i - at) m ++ tail
-  pub done : b ≡ sets l i tail
-  pub long : length b ≡ length l
+  pub whole : fixed base k n ≡ fixed base i m ++ tail
+  pub done : b ≡ sets l (at + i) tail
 
-pub left_start : (base k n : ℕ) (l : List ℕ) (at : ℕ) → Left base k n l at l (at + k) n
-left_start base k n l at =
-    let q : at + k - at ≡ k = omega arith in
-    record { tail = []; low = omega arith; high = omega arith; whole = rw (q, append-nil (fixed base k n)); done = refl; long = refl }
+pub left_start : (base k n : ℕ) (l : List ℕ) (at : ℕ) → Left base k n l at l k n
+left_start base k n l at = record { tail = []; whole = sym (append-nil (fixed base k n)); done = refl }
 
 fixed_less : (base j m : ℕ) (tail : List ℕ) → 0 < j → fixed base j m ++ tail ≡ fixed base (j - 1) (m / base) ++ (char_of (m % base) ∷ tail)
 unfolding fixed
@@ -98,33 +97,22 @@ fixed_less base (suc j) m tail h =
     rw q (append_assoc (fixed base j (m / base)) (char_of (m % base) ∷ []) tail)
 
 module _ (base k n : ℕ) (l : List ℕ) (at : ℕ) (b : List ℕ) (i m : ℕ) (w : Left base k n l at b i m) where
-  pub left_again : (c : ℕ) → at < i → c ≡ char_of (m % base) → Left base k n l at (set b (i - 1) c) (i - 1) (m / base)
-  left_again c h e =
-      let a = w.low in
-      let g = w.high in
-      let q : i - 1 - at ≡ i - at - 1 = omega arith in
-      let z : i ≡ suc (i - 1) = omega arith in
+  pub left_again : 0 < i → (c : ℕ) → c ≡ char_of (m % base) → Left base k n l at (set b (at + (i - 1)) c) (i - 1) (m / base)
+  left_again h c e =
+      let z : at + i ≡ suc (at + (i - 1)) = omega arith in
       record {
         tail = c ∷ w.tail;
-        low = omega arith;
-        high = omega arith;
-        whole = rw (e, q) (w.whole ∙ fixed_less base (i - at) m w.tail (omega arith));
-        done = rw w.done (set_sets w.tail l (i - 1) i c (omega arith) ∙ ap (λ (x : ℕ). sets (set l (i - 1) c) x w.tail) z);
-        long = length-set b (i - 1) c ∙ w.long;
+        whole = rw e (w.whole ∙ fixed_less base i m w.tail h);
+        done = rw w.done (set_sets w.tail l (at + (i - 1)) (at + i) c (omega arith) ∙ ap (λ (x : ℕ). sets (set l (at + (i - 1)) c) x w.tail) z);
       }
 
-  pub left_end : i ≤ at → b ≡ sets l at (fixed base k n)
+  pub left_end : i ≤ 0 → b ≡ sets l at (fixed base k n)
   unfolding fixed
   left_end h =
-      let a = w.low in
-      let q : i ≡ at = omega arith in
-      let z : i - at ≡ 0 = omega arith in
+      let z : i ≡ 0 = omega arith in
+      let q : at + i ≡ at = omega arith in
       let f : fixed base k n ≡ w.tail = w.whole ∙ rw z in
       rw (f, ← q) w.done
-
--- `put_float`: i counts from the place on
-pub left_step : (base k n : ℕ) (l : List ℕ) (at : ℕ) (b : List ℕ) (i m : ℕ) → Left base k n l at b (at + i) m → 0 < i → (c : ℕ) → c ≡ char_of (m % base) → Left base k n l at (set b (at + (i - 1)) c) (at + (i - 1)) (m / base)
-left_step base k n l at b i m w h c e = let q : at + (i - 1) ≡ at + i - 1 = omega arith in rw q (left_again base k n l at b (at + i) m w c (omega arith) e)
 
 -- `width`: m is the limit
 module _ (sp : Spelling) (n m : ℕ) (lim : m ≡ limit sp) where

@@ -1,12 +1,12 @@
 -- "day as YYYYMMDD in the Gregorian calendar (not eight digits is 5; no such date, or year 0000, is 6)"
-use Rattle.std.specs.Prelude.{ℕ, ◌/◌, ◌%◌, ◌≤◌, ◌<◌, ◌≡◌, Bool, not, ◌&&◌, ◌||◌, List, eqb}
+use Rattle.std.specs.Prelude.{ℕ, ◌/◌, ◌%◌, ◌≤◌, ◌<◌, ◌≡◌, Bool, not, ◌&&◌, ◌||◌, List, eqb, Option, Some, None, Result, Err}
 use Rattle.units.specs.Within.{within}
 use Rattle.fields.specs.Digits.{pick, fixed_in}
 use Rattle.fields.specs.Text.{field_at, next_at}
-use Rattle.fields.specs.declared.digit.Digits.{Digits}
-use Rattle.fields.specs.declared.digit.Digits.TheVariants.{Said, Wrong}
+use Rattle.fields.specs.declared.field.Fault.{Fault}
 use Rattle.fields.specs.declared.field.Field.{Field}
-use Rattle.fields.specs.declared.field.Field.TheVariants.{Value, Form, Range}
+use Rattle.fields.specs.declared.field.Fault.TheVariants.{Form, Range}
+use Rattle.fields.specs.Field.{value}
 
 abbrev pub day_digits : ℕ
 day_digits = 8
@@ -45,14 +45,14 @@ pub data Earlier (a b : ℕ) : Type 0 where
   by_day : year_of a ≡ year_of b → month_of a ≡ month_of b → day_of a < day_of b → Earlier a b
 
 -- form, then date; `next` goes with the number
-unfoldable pub day_judged : ℕ → Digits → Field
-day_judged next (Said n) = pick (date_fits n) (Value n next) Range
-day_judged next Wrong = Form
+unfoldable pub day_judged : ℕ → Option ℕ → Result Field Fault
+day_judged next (Some n) = pick (date_fits n) (value n next) (Err Range)
+day_judged next None = Err Form
 
 -- what bytes say as a day
-unfoldable pub day_in : ℕ → List ℕ → Field
+unfoldable pub day_in : ℕ → List ℕ → Result Field Fault
 day_in next cs = day_judged next (fixed_in 10 day_digits 0 cs)
 
 -- the field that starts at a place, as a day
-abbrev pub day_at : List ℕ → ℕ → Field
+abbrev pub day_at : List ℕ → ℕ → Result Field Fault
 day_at text at = day_in (next_at text at) (field_at text at)

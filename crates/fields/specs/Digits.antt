@@ -1,7 +1,5 @@
 -- Digits, the numbers that they say, and the digits of a number.
-use Rattle.std.specs.Prelude.{ℕ, zero, suc, ◌+◌, ◌-◌, ◌*◌, ◌/◌, ◌%◌, ◌^◌, ◌≤◌, ◌<◌, ◌≡◌, List, [], ◌∷◌, ◌++◌, Bool, true, false, ◌&&◌, length, take, drop, leb, ltb, eqb}
-use Rattle.fields.specs.declared.digit.Digits.{Digits}
-use Rattle.fields.specs.declared.digit.Digits.TheVariants.{Said, Wrong}
+use Rattle.std.specs.Prelude.{ℕ, zero, suc, ◌+◌, ◌-◌, ◌*◌, ◌/◌, ◌%◌, ◌^◌, ◌≤◌, ◌<◌, ◌≡◌, List, [], ◌∷◌, ◌++◌, Bool, true, false, ◌&&◌, length, take, drop, leb, ltb, eqb, Option, Some, None}
 
 abbrev pub pick : {A : Type 0} → Bool → A → A → A
 pick true a b = a
@@ -16,13 +14,13 @@ unfoldable pub char_of : ℕ → ℕ
 char_of d = pick (ltb d 10) (48 + d) (55 + d)
 
 -- the number that bytes say as digits to a base, after digits that say n; Wrong where one is no digit
-unfoldable pub value_from : ℕ → ℕ → List ℕ → Digits
-value_from base n [] = Said n
-value_from base n (c ∷ cs) = pick (ltb (digit_of c) base) (value_from base (n * base + digit_of c) cs) Wrong
+unfoldable pub value_from : ℕ → ℕ → List ℕ → Option ℕ
+value_from base n [] = Some n
+value_from base n (c ∷ cs) = pick (ltb (digit_of c) base) (value_from base (n * base + digit_of c) cs) None
 
 -- the same of exactly k bytes
-unfoldable pub fixed_in : ℕ → ℕ → ℕ → List ℕ → Digits
-fixed_in base k n cs = pick (eqb (length cs) k) (value_from base n cs) Wrong
+unfoldable pub fixed_in : ℕ → ℕ → ℕ → List ℕ → Option ℕ
+fixed_in base k n cs = pick (eqb (length cs) k) (value_from base n cs) None
 
 -- n in k digits to a base
 unfoldable pub fixed : ℕ → ℕ → ℕ → List ℕ
@@ -48,8 +46,8 @@ all_digits [] = true
 all_digits (c ∷ cs) = ltb (digit_of c) 10 && all_digits cs
 
 -- A FIXED NUMBER OF DIGITS: what exactly n decimal digits at a place say, whatever comes after them; n is 1 to 16, which 64 bits always carry
-unfoldable pub digits_at : List ℕ → ℕ → ℕ → Digits
-digits_at text at n = pick (leb 1 n && leb n 16) (fixed_in 10 n 0 (take n (drop at text))) Wrong
+unfoldable pub digits_at : List ℕ → ℕ → ℕ → Option ℕ
+digits_at text at n = pick (leb 1 n && leb n 16) (fixed_in 10 n 0 (take n (drop at text))) None
 
 -- that n digits stand at a place, 1 to 16 of them, and that their number is v: `digits_only` and `digits_read` of proofs/Numbers.antt say that this is what is accepted
 pub record ReadDigits (text : List ℕ) (at n v : ℕ) : Type 0 where

@@ -1,35 +1,24 @@
 // Certificates: 1 to 16 bytes 0x21..0x7E.
-ghost use Rattle.std.specs.Prelude.{◌≡◌};
+ghost use Rattle.std.specs.Prelude.{◌≡◌, length, take_while};
+ghost use Rattle.units.specs.Bytes.{visible};
 ghost use Rattle.fields.specs.Certificate.{certificate_at};
 
-use crate::text::TAB;
+use crate::text::ends_at;
 use units::bytes::is_visible;
 use units::limits::CERTIFICATE;
 
-#[derive(Clone, Copy)]
-pub enum Certificate {
-    At { end: usize },
-    Form,
+// How many visible bytes a text starts with.
+fn shown(text: &[u8]) -> usize
+    ensures { result ≡ length (take_while visible text.now) }
+{
+    text.iter().take_while(|b| is_visible(**b)).count()
 }
 
-// Where the certificate at a place ends.
-pub fn certificate_end(text: &[u8], at: usize) -> Certificate
+// Where the certificate at a place ends; none where there is no certificate.
+pub fn certificate_end(text: &[u8], at: usize) -> Option<usize>
     ensures { result ≡ certificate_at text.now at }
 {
-    let mut i = at;
-    while i < text.len() {
-        let b = text[i];
-        if b == TAB {
-            break;
-        }
-        if !is_visible(b) {
-            return Certificate::Form;
-        }
-        i += 1;
-    }
-    let n = i - at;
-    if (1 <= n) & (n <= CERTIFICATE) {
-        return Certificate::At { end: i };
-    }
-    Certificate::Form
+    let n = shown(text.get(at..)?);
+    let end = at + n;
+    ((1 <= n) & (n <= CERTIFICATE) & ends_at(text, end)).then_some(end)
 }

@@ -28,11 +28,7 @@ pub struct Cut {
 fn fitting(len: usize, n: usize) -> usize
     ensures { result ≡ Rattle.fields.specs.Cut.fitting len n }
 {
-    if HELD < len {
-        return 0;
-    }
-    let most = HELD - len;
-    if n < most { n } else { most }
+    n.min(HELD.saturating_sub(len))
 }
 
 impl Carry {
@@ -78,12 +74,8 @@ impl Carry {
         ensures { result ≡ held_with self (take n input.now) }
     {
         let mut bytes = self.bytes;
-        let k = fitting(self.len, n);
-        let len = if input.len() < k {
-            put_part(&mut bytes, self.len, input)
-        } else {
-            put_part(&mut bytes, self.len, &input[..k])
-        };
+        let k = fitting(self.len, n).min(input.len());
+        let len = put_part(&mut bytes, self.len, &input[..k]);
         Carry { len, bytes }
     }
 

@@ -1,10 +1,9 @@
 // Days as YYYYMMDD in the Gregorian calendar.
 ghost use Rattle.std.specs.Prelude.{◌≡◌};
 ghost use Rattle.fields.specs.Day.{date_fits, day_at, day_in, day_judged, days_in, is_leap};
-ghost use Rattle.fields.specs.declared.digit.Digits.{Digits};
 
-use crate::digit::{Digits, read_digits};
-use crate::field::Field;
+use crate::digit::read_digits;
+use crate::field::{Fault, Field};
 use crate::text::ends_at;
 
 // The digits of a day.
@@ -45,39 +44,33 @@ fn is_date(n: u64) -> bool
 }
 
 // The day that eight digits say.
-fn dated(n: u64, next: usize) -> Field
-    ensures { result ≡ day_judged next (Digits.Said n) }
+fn dated(n: u64, next: usize) -> Result<Field, Fault>
+    ensures { result ≡ day_judged next (Some n) }
 {
     if is_date(n) {
-        return Field::Value { n: n, next: next };
+        return Ok(Field { n, next });
     }
-    Field::Range
+    Err(Fault::Range)
 }
 
 // The day in the field at a place.
-pub fn read_day(text: &[u8], at: usize) -> Field
+pub fn read_day(text: &[u8], at: usize) -> Result<Field, Fault>
     ensures { result ≡ day_at text.now at }
 {
-    match read_digits(text, at, DAY_DIGITS) {
-        Digits::Said { n } => {
-            if ends_at(text, at + DAY_DIGITS) {
-                return dated(n, at + DAY_DIGITS + 1);
-            }
-            Field::Form
-        }
-        Digits::Wrong => Field::Form,
+    let n = read_digits(text, at, DAY_DIGITS).ok_or(Fault::Form)?;
+    if !ends_at(text, at + DAY_DIGITS) {
+        return Err(Fault::Form);
     }
+    dated(n, at + DAY_DIGITS + 1)
 }
 
 // The day that a text is as a whole.
-pub fn whole_day(text: &[u8]) -> Field
+pub fn whole_day(text: &[u8]) -> Result<Field, Fault>
     ensures { result ≡ day_in 0 text.now }
 {
     if text.len() != DAY_DIGITS {
-        return Field::Form;
+        return Err(Fault::Form);
     }
-    match read_digits(text, 0, DAY_DIGITS) {
-        Digits::Said { n } => dated(n, 0),
-        Digits::Wrong => Field::Form,
-    }
+    let n = read_digits(text, 0, DAY_DIGITS).ok_or(Fault::Form)?;
+    dated(n, 0)
 }

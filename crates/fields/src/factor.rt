@@ -4,9 +4,8 @@ ghost use Rattle.fields.specs.Field.{read_at};
 ghost use Rattle.fields.specs.Put.{put, put_end, written};
 ghost use Rattle.fields.specs.declared.spelling.Spelling.{Spelling};
 
-use crate::decimal::put_decimal;
-use crate::digit::{byte_of, digit};
-use crate::field::{Field, judged};
+use crate::digit::{byte_of, digit, put_fixed};
+use crate::field::{Fault, Field, judged};
 use crate::put::has_room;
 use crate::spelling::Spelling;
 use crate::text::ends_at;
@@ -15,46 +14,46 @@ use units::limits::{FACTOR_DIGITS, FACTOR_SCALE};
 pub const POINT: u8 = 46;
 
 // The factor whose six bytes stand at a place, position by position: a digit, the point, four digits, and then the field's end.
-fn factor_at(text: &[u8], at: usize, low: u64, high: u64) -> Field
+fn factor_at(text: &[u8], at: usize, low: u64, high: u64) -> Result<Field, Fault>
     requires { at + 6 ≤ length text.now }
     ensures { result ≡ read_at text.now at Spelling.Factor low high }
 {
     let ones = digit(text[at]);
     if 9 < ones {
-        return Field::Form;
+        return Err(Fault::Form);
     }
     if text[at + 1] != POINT {
-        return Field::Form;
+        return Err(Fault::Form);
     }
     let tenths = digit(text[at + 2]);
     if 9 < tenths {
-        return Field::Form;
+        return Err(Fault::Form);
     }
     let hundredths = digit(text[at + 3]);
     if 9 < hundredths {
-        return Field::Form;
+        return Err(Fault::Form);
     }
     let thousandths = digit(text[at + 4]);
     if 9 < thousandths {
-        return Field::Form;
+        return Err(Fault::Form);
     }
     let last = digit(text[at + 5]);
     if 9 < last {
-        return Field::Form;
+        return Err(Fault::Form);
     }
     if !ends_at(text, at + 6) {
-        return Field::Form;
+        return Err(Fault::Form);
     }
     let n = 10000 * ones + 1000 * tenths + 100 * hundredths + 10 * thousandths + last;
     judged(Spelling::Factor, low, high, n, at + 7)
 }
 
 // The factor at a place.
-pub fn read_factor(text: &[u8], at: usize, low: u64, high: u64) -> Field
+pub fn read_factor(text: &[u8], at: usize, low: u64, high: u64) -> Result<Field, Fault>
     ensures { result ≡ read_at text.now at Spelling.Factor low high }
 {
     if !has_room(text.len(), at, 6) {
-        return Field::Form;
+        return Err(Fault::Form);
     }
     factor_at(text, at, low, high)
 }
@@ -72,5 +71,5 @@ pub fn put_factor(buf: &mut [u8], at: usize, n: u64) -> usize
     }
     buf[at] = byte_of(whole);
     buf[at + 1] = POINT;
-    put_decimal(buf, at + 2, FACTOR_DIGITS, n)
+    put_fixed::<10>(buf, at + 2, FACTOR_DIGITS, n)
 }

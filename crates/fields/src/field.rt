@@ -1,24 +1,47 @@
 // What a field says, form first, then range.
 ghost use Rattle.std.specs.Prelude.{◌≡◌};
-ghost use Rattle.fields.specs.Field.{judge};
-ghost use Rattle.fields.specs.declared.digit.Digits.{Digits};
+ghost use Rattle.fields.specs.Field.{judge, refusal_of};
 
 use crate::spelling::{Spelling, in_range};
+use units::Refusal;
 
-// Its number and where the next field starts, or why it is refused.
+// The number of a field that is read, and where the next field starts.
 #[derive(Clone, Copy)]
-pub enum Field {
-    Value { n: u64, next: usize },
+pub struct Field {
+    pub n: u64,
+    pub next: usize,
+}
+
+// Why a field is refused.
+#[derive(Clone, Copy, Debug, PartialEq, Eq)]
+pub enum Fault {
     Form,
     Range,
 }
 
+impl From<Fault> for Refusal {
+    ghost from_gives = { λ fault refusal. refusal ≡ refusal_of fault };
+
+    fn from(fault: Fault) -> Refusal {
+        match fault {
+            Fault::Form => Refusal::Form,
+            Fault::Range => Refusal::Range,
+        }
+    }
+}
+
 // The number of a field that has its form.
-pub(crate) fn judged(spelling: Spelling, low: u64, high: u64, n: u64, next: usize) -> Field
-    ensures { result ≡ judge spelling low high next (Digits.Said n) }
+pub(crate) fn judged(
+    spelling: Spelling,
+    low: u64,
+    high: u64,
+    n: u64,
+    next: usize,
+) -> Result<Field, Fault>
+    ensures { result ≡ judge spelling low high next (Some n) }
 {
     if in_range(spelling, low, high, n) {
-        return Field::Value { n: n, next: next };
+        return Ok(Field { n, next });
     }
-    Field::Range
+    Err(Fault::Range)
 }

@@ -17,12 +17,12 @@ pub mod spelling;
 pub mod text;
 pub mod write;
 
-pub use certificate::{Certificate, certificate_end};
+pub use certificate::certificate_end;
 pub use cut::{Carry, Cut};
 pub use day::{read_day, whole_day};
-pub use digit::{Digits, read_digits};
+pub use digit::read_digits;
 pub use factor::{put_factor, read_factor};
-pub use field::Field;
+pub use field::{Fault, Field};
 pub use line::scan;
 pub use put::put_part;
 pub use quick::{read_decimal_here, read_here};

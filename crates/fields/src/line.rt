@@ -8,22 +8,16 @@ pub fn scan(line: &[u8]) -> Scan
     ensures { result ≡ scanned line.now }
 {
     let mut tabs: usize = 0;
-    let mut i: usize = 0;
-    while i < line.len() {
-        let b = line[i];
-        if b == LINE_FEED {
-            return Scan {
-                tabs: tabs,
-                feed: i,
-            };
+    for (feed, b) in line.iter().enumerate() {
+        if *b == LINE_FEED {
+            return Scan { tabs, feed };
         }
-        if b == TAB {
+        if *b == TAB {
             tabs += 1;
         }
-        i += 1;
     }
     Scan {
-        tabs: tabs,
-        feed: i,
+        tabs,
+        feed: line.len(),
     }
 }

@@ -19,10 +19,7 @@ pub fn put_part(buf: &mut [u8], at: usize, from: &[u8]) -> usize
     if !has_room(buf.len(), at, from.len()) {
         return at;
     }
-    let mut i: usize = 0;
-    while i < from.len() {
-        buf[at + i] = from[i];
-        i += 1;
-    }
-    at + i
+    let end = at + from.len();
+    buf[at..end].copy_from_slice(from);
+    end
 }

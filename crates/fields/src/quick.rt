@@ -2,11 +2,10 @@
 ghost use Rattle.std.specs.Prelude.{◌≡◌, ◌+◌, ◌≤◌, min, ltb, drop, length};
 ghost use Rattle.fields.specs.Digits.{digit_of, digits_of, pick, value_from};
 ghost use Rattle.fields.specs.Field.{read_here};
-ghost use Rattle.fields.specs.declared.digit.Digits.{Digits};
 ghost use Rattle.fields.specs.declared.spelling.Spelling.{Spelling};
 
-use crate::digit::{Digits, digits_at};
-use crate::field::{Field, judged};
+use crate::digit::digits_at;
+use crate::field::{Fault, Field, judged};
 use crate::spelling::Spelling;
 
 // Digits from a place on: the number that they say, and the place after them.
@@ -27,49 +26,47 @@ fn near(len: usize, at: usize) -> usize
 fn is_digit(b: u8) -> bool
     ensures { result ≡ ltb (digit_of b) 10 }
 {
-    (48 <= b) & (b <= 57)
+    b.is_ascii_digit()
 }
 
 // The decimal digits from a place on, sixteen at the most.
 fn decimal_run(text: &[u8], at: usize) -> Run
     requires { at ≤ length text.now }
-    ensures { (result.end ≡ at + length (digits_of 16 (drop at text.now))) × (value_from 10 0 (digits_of 16 (drop at text.now)) ≡ Digits.Said result.n) }
+    ensures { (result.end ≡ at + length (digits_of 16 (drop at text.now))) × (value_from 10 0 (digits_of 16 (drop at text.now)) ≡ Some result.n) }
 {
     let stop = near(text.len(), at);
     let mut n: u64 = 0;
-    let mut i = at;
-    while i < stop {
-        let b = text[i];
+    for end in at..stop {
+        let b = text[end];
         if !is_digit(b) {
-            return Run { n, end: i };
+            return Run { n, end };
         }
         n = n * 10 + ((b - 48) as u64);
-        i += 1;
     }
-    Run { n, end: i }
+    Run { n, end: stop }
 }
 
-fn decimal_here(text: &[u8], at: usize, low: u64, high: u64) -> Field
+fn decimal_here(text: &[u8], at: usize, low: u64, high: u64) -> Result<Field, Fault>
     requires { at ≤ length text.now }
     ensures { result ≡ read_here text.now at Spelling.Decimal low high }
 {
     let run = decimal_run(text, at);
     let end = run.end;
     if end == at {
-        return Field::Form;
+        return Err(Fault::Form);
     }
     if (text[at] == 48) & (at + 1 < end) {
-        return Field::Form;
+        return Err(Fault::Form);
     }
     judged(Spelling::Decimal, low, high, run.n, end)
 }
 
 // The decimal number that stands at a place, whatever comes after it, and the place after it.
-pub fn read_decimal_here(text: &[u8], at: usize, low: u64, high: u64) -> Field
+pub fn read_decimal_here(text: &[u8], at: usize, low: u64, high: u64) -> Result<Field, Fault>
     ensures { result ≡ read_here text.now at Spelling.Decimal low high }
 {
     if text.len() < at {
-        return Field::Form;
+        return Err(Fault::Form);
     }
     decimal_here(text, at, low, high)
 }
@@ -85,56 +82,52 @@ fn nibble(b: u8) -> u8
     }
 }
 
-fn larger(a: u8, b: u8) -> u8
-    ensures { result ≡ pick (ltb a b) b a }
-{
-    if a < b { b } else { a }
-}
-
 // No byte stops the sixteen: the largest value tells at the end whether all were digits.
-fn float_here(text: &[u8], at: usize, low: u64, high: u64) -> Field
+fn float_here(text: &[u8], at: usize, low: u64, high: u64) -> Result<Field, Fault>
     requires { at ≤ length text.now }
     ensures { result ≡ read_here text.now at Spelling.Hex16 low high }
 {
-    if text.len() - at < 16 {
-        return Field::Form;
-    }
+    let Some(digits) = text[at..].first_chunk::<16>() else {
+        return Err(Fault::Form);
+    };
     let mut n: u64 = 0;
     let mut worst: u8 = 0;
-    let mut i: usize = 0;
-    while i < 16 {
-        let d = nibble(text[at + i]);
+    for b in digits {
+        let d = nibble(*b);
         n = n * 16 + ((d % 16) as u64);
-        worst = larger(worst, d);
-        i += 1;
+        worst = worst.max(d);
     }
     if 15 < worst {
-        return Field::Form;
+        return Err(Fault::Form);
     }
     judged(Spelling::Hex16, low, high, n, at + 16)
 }
 
-fn mask_here(text: &[u8], at: usize, low: u64, high: u64) -> Field
+fn mask_here(text: &[u8], at: usize, low: u64, high: u64) -> Result<Field, Fault>
     requires { at ≤ length text.now }
     ensures { result ≡ read_here text.now at Spelling.Hex4 low high }
 {
-    match digits_at(text, at, 4, 16, 0) {
-        Digits::Said { n } => judged(Spelling::Hex4, low, high, n, at + 4),
-        Digits::Wrong => Field::Form,
-    }
+    let n = digits_at(text, at, 4, 16, 0).ok_or(Fault::Form)?;
+    judged(Spelling::Hex4, low, high, n, at + 4)
 }
 
 // The number whose spelling stands at a place, whatever comes after it, and the place after it; a factor is read as a whole field alone.
-pub fn read_here(text: &[u8], at: usize, spelling: Spelling, low: u64, high: u64) -> Field
+pub fn read_here(
+    text: &[u8],
+    at: usize,
+    spelling: Spelling,
+    low: u64,
+    high: u64,
+) -> Result<Field, Fault>
     ensures { result ≡ read_here text.now at spelling low high }
 {
     if text.len() < at {
-        return Field::Form;
+        return Err(Fault::Form);
     }
     match spelling {
         Spelling::Decimal => decimal_here(text, at, low, high),
         Spelling::Hex4 => mask_here(text, at, low, high),
         Spelling::Hex16 => float_here(text, at, low, high),
-        Spelling::Factor => Field::Form,
+        Spelling::Factor => Err(Fault::Form),
     }
 }

@@ -2,9 +2,9 @@
 ghost use Rattle.std.specs.Prelude.{◌≡◌, length};
 ghost use Rattle.fields.specs.Put.{put, put_end, written};
 
-use crate::decimal::{decimal_width, put_decimal};
+use crate::decimal::decimal_width;
+use crate::digit::put_fixed;
 use crate::factor::put_factor;
-use crate::hex::{put_float, put_hex};
 use crate::put::has_room;
 use crate::spelling::Spelling;
 use units::limits::FACTOR_DIGITS;
@@ -36,9 +36,9 @@ pub fn put_at(buf: &mut [u8], at: usize, spelling: Spelling, n: u64) -> usize
         return at;
     }
     match spelling {
-        Spelling::Decimal => put_decimal(buf, at, k, n),
-        Spelling::Hex4 => put_hex(buf, at, k, n),
-        Spelling::Hex16 => put_float(buf, at, n),
+        Spelling::Decimal => put_fixed::<10>(buf, at, k, n),
+        Spelling::Hex4 => put_fixed::<16>(buf, at, k, n),
+        Spelling::Hex16 => put_fixed::<16>(buf, at, 16, n),
         Spelling::Factor => put_factor(buf, at, n),
     }
 }

@@ -1,20 +1,20 @@
 -- Values handed in "with anything out of range get 6, before all else": what is in range here, and what is answered.
-use Rattle.std.specs.Prelude.{ℕ, Bool, true, false, ◌&&◌, List, replicate, nat_lt, slice_index}
+use Rattle.std.specs.Prelude.{ℕ, Bool, ◌&&◌, List, nat_lt, slice_index, Result, Ok, Err}
 use Rattle.units.specs.declared.labels.RoundLabel.{RoundLabel}
 use Rattle.units.specs.declared.labels.StateLabel.{StateLabel}
 use Rattle.units.specs.declared.estimate.Estimate.{Estimate}
 use Rattle.units.specs.declared.settings.Numbers.{Numbers}
+use Rattle.units.specs.declared.refusal.Refusal.{Refusal}
 use Rattle.units.specs.declared.refusal.Refusal.TheVariants.{Range}
-use Rattle.units.specs.declared.refusal.Verdict.TheVariants.{Taken, Refused}
 use Rattle.units.specs.Labels.{before}
 use Rattle.units.specs.Limits.{runs_top}
 use Rattle.units.specs.Mask.{mask_fits}
+use Rattle.units.specs.Pick.{pick}
 use Rattle.units.specs.Reading.{reading_place}
 use Rattle.units.specs.Every.{every}
 use Rattle.units.specs.Settings.{numbers_fit}
-use Rattle.floats.specs.Bits.{nought}
 use Rattle.floats.specs.Ranges.{state_fits}
-use Rattle.filter.specs.declared.checked.Checked.{Checked}
+use Rattle.filter.specs.declared.compute.Computed.{Computed}
 use Rattle.filter.specs.Compute.{computed}
 
 -- a run has a reading in range, any other place has 0
@@ -31,14 +31,8 @@ computing_fits label base state s chosen readings =
     (numbers_fit s && state_fits s.group.m state)
     && (before base label && mask_fits s.group.m chosen && readings_fit s.group.m readings)
 
--- in range or not: taken and computed, or 6 with the state as it was and every target +0
-unfoldable pub answer : Bool → RoundLabel → StateLabel → List Estimate → Numbers → ℕ → List ℕ → Checked
-answer true label base state s chosen readings =
-    record { verdict = Taken; computed = computed label base state s chosen readings }
-answer false label base state s chosen readings =
-    record { verdict = Refused Range; computed = record { state = state; targets = replicate runs_top nought } }
-
-unfoldable pub checked : RoundLabel → StateLabel → List Estimate → Numbers → ℕ → List ℕ → Checked
-unfolding computing_fits answer
+-- in range or not: what is computed, or 6
+unfoldable pub checked : RoundLabel → StateLabel → List Estimate → Numbers → ℕ → List ℕ → Result Computed Refusal
+unfolding computing_fits
 checked label base state s chosen readings =
-    answer (computing_fits label base state s chosen readings) label base state s chosen readings
+    pick (computing_fits label base state s chosen readings) (Ok (computed label base state s chosen readings)) (Err Range)

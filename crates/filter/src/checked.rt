@@ -4,30 +4,20 @@ ghost use Rattle.filter.specs.Checked.{checked, computing_fits, readings_fit};
 
 use crate::compute::{Computed, compute};
 use floats::ranges::state_in_range;
-use units::limits::RUNS;
 use units::mask::mask_in_range;
 use units::reading::reading_place;
-use units::{Estimate, Numbers, Refusal, RoundLabel, StateLabel, Verdict};
-
-// What computing says of itself, and what it gives.
-#[derive(Clone, Copy)]
-pub struct Checked {
-    pub verdict: Verdict,
-    pub computed: Computed,
-}
+use units::{Estimate, Numbers, Refusal, RoundLabel, StateLabel};
 
 pub(crate) fn readings_in_range(m: usize, readings: [u32; 16]) -> bool
     ensures { result ≡ readings_fit m readings }
 {
-    let mut fit = true;
-    let mut i = 0usize;
-    while i < RUNS {
-        fit = fit & reading_place(i < m, readings[i]);
-        i += 1;
-    }
-    fit
+    readings
+        .iter()
+        .enumerate()
+        .all(|(i, raw)| reading_place(i < m, *raw))
 }
 
+#[tactic(auto, unfolding(crate::specs::Checked::computing_fits))]
 fn computing_in_range(
     label: RoundLabel,
     base: StateLabel,
@@ -44,6 +34,7 @@ fn computing_in_range(
     station & round
 }
 
+#[tactic(auto, using(crate::proofs::Inputs::checked_in, crate::proofs::Inputs::checked_out))]
 pub fn compute_checked(
     label: RoundLabel,
     base: StateLabel,
@@ -51,23 +42,12 @@ pub fn compute_checked(
     numbers: Numbers,
     chosen: u32,
     readings: [u32; 16],
-) -> Checked
+) -> Result<Computed, Refusal>
     ensures { result ≡ checked label base state numbers chosen readings }
 {
     if computing_in_range(label, base, state, numbers, chosen, readings) {
-        let computed = compute(label, base, state, numbers, chosen, readings);
-        Checked {
-            verdict: Verdict::Taken,
-            computed,
-        }
+        Ok(compute(label, base, state, numbers, chosen, readings))
     } else {
-        let computed = Computed {
-            state,
-            targets: [0.0f64; 16],
-        };
-        Checked {
-            verdict: Verdict::Refused(Refusal::Range),
-            computed,
-        }
+        Err(Refusal::Range)
     }
 }

@@ -14,6 +14,7 @@ pub struct Computed {
 }
 
 // The state that a round leaves.
+#[tactic(auto, unfolding(crate::specs::Compute::new_state))]
 pub fn state_after(
     label: RoundLabel,
     base: StateLabel,
@@ -28,6 +29,7 @@ pub fn state_after(
 }
 
 // The targets that a state gives.
+#[tactic(auto, unfolding(crate::specs::Compute::set_points))]
 pub fn targets_from(state: [Estimate; 16], numbers: Numbers) -> [f64; 16]
     ensures { result ≡ set_points numbers state }
 {

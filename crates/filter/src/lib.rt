@@ -8,6 +8,5 @@ pub mod run;
 pub mod runs;
 pub mod share;
 
-pub use checked::Checked;
 pub use compute::Computed;
 pub use run::Outcome;

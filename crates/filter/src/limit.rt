@@ -7,10 +7,11 @@ ghost use Rattle.filter.specs.Run.{at_most, limited};
 pub(crate) fn product(a: u32, b: u32) -> f64
     ensures { result ≡ of_whole (a * b) }
 {
-    std::num::nearest_u64_to_f64((a as u64) * (b as u64))
+    std::num::nearest_u64_to_f64(u64::from(a) * u64::from(b))
 }
 
 // v, or the limit where v exceeds it.
+#[tactic(auto, unfolding(crate::specs::Run::at_most))]
 pub(crate) fn at_most(top: f64, v: f64) -> f64
     ensures { result ≡ at_most top v }
 {
@@ -18,11 +19,15 @@ pub(crate) fn at_most(top: f64, v: f64) -> f64
 }
 
 // v held within +0 and the limit.
+#[tactic(auto, unfolding(crate::specs::Run::limited))]
 pub(crate) fn limit(top: f64, v: f64) -> f64
     ensures { result ≡ limited top v }
 {
     if 0.0 < v && v <= top {
-        return v;
+        v
+    } else if top < v {
+        top
+    } else {
+        0.0
     }
-    if top < v { top } else { 0.0 }
 }

@@ -21,17 +21,19 @@ pub(crate) fn grow(p: f64, n: u32, q: u32) -> f64
 }
 
 // z, from a raw reading and its meter's factor.
+#[tactic(auto, unfolding(crate::specs::Run::measured))]
 pub(crate) fn measure(raw: u32, factor: u32) -> f64
     ensures { result ≡ measured raw factor }
 {
-    product(raw, factor) / (FACTOR_SCALE as f64)
+    product(raw, factor) / f64::from(FACTOR_SCALE)
 }
 
 // k, from P1 and r.
+#[tactic(auto, unfolding(crate::specs::Run::gain))]
 pub(crate) fn gain_of(p1: f64, r: u32) -> f64
     ensures { result ≡ gain p1 r }
 {
-    p1 / (p1 + (r as f64))
+    p1 / (p1 + f64::from(r))
 }
 
 // The new x, from x, k and z.
@@ -42,6 +44,7 @@ pub(crate) fn move_by(x: f64, k: f64, z: f64) -> f64
 }
 
 // The new P, from k and P1.
+#[tactic(auto, using(floats::proofs::Limits::variance_top_lem, crate::proofs::Cases::one_is), unfolding(crate::specs::Run::shrunk))]
 pub(crate) fn shrink(k: f64, p1: f64) -> f64
     ensures { result ≡ shrunk k p1 }
 {

@@ -3,11 +3,11 @@ ghost use Rattle.std.specs.Prelude.{◌≡◌};
 ghost use Rattle.filter.specs.Runs.{place, runs_after};
 
 use crate::run::{estimate_after, run};
-use units::limits::RUNS;
 use units::mask::has;
 use units::{Estimate, Numbers};
 
 // A run's place after a round; a place that is no run stays.
+#[tactic(auto, unfolding(crate::specs::Runs::place))]
 fn place_after(
     used: bool,
     e: Estimate,
@@ -39,14 +39,9 @@ pub(crate) fn runs_after(
     let m = numbers.group.m;
     let q = numbers.q;
     let r = numbers.r;
-    let mut next = state;
-    let mut i = 0usize;
-    while i < RUNS {
-        let taken = has(chosen, i);
-        let raw = readings[i];
-        let factor = numbers.factors[i];
-        next[i] = place_after(i < m, next[i], n, q, r, taken, raw, factor);
-        i += 1;
-    }
-    next
+    let factors = numbers.factors;
+    std::array::from_fn(|i| {
+        let (used, taken) = (i < m, has(chosen, i));
+        place_after(used, state[i], n, q, r, taken, readings[i], factors[i])
+    })
 }

@@ -5,12 +5,12 @@
 
 ghost use Rattle.std.specs.Prelude.{◌<◌, ◌≤◌};
 
-use filter::Checked;
+use filter::Computed;
 use filter::checked::compute_checked;
 use floats::bits::{VARIANCE_BITS, X_BITS, bits_of, float_of};
-use std::io;
-use units::limits::{FACTOR_LOW, FACTOR_TOP, FIRST_TOP, NOISE_TOP, RAW_TOP, RUNS, WEIGHT_TOP};
-use units::{Estimate, Group, Numbers, RoundLabel, StateLabel};
+use std::{array, io};
+use units::limits::{FACTOR_LOW, FACTOR_TOP, FIRST_TOP, NOISE_TOP, RAW_TOP, WEIGHT_TOP};
+use units::{Estimate, Group, Numbers, Refusal, RoundLabel, StateLabel};
 
 // A turn of xorshift64.
 fn turn(s: u64) -> u64 {
@@ -37,36 +37,26 @@ fn number(d: u64, low: u32, top: u32) -> u32 {
     if top <= low {
         return low;
     }
-    let kind = d % 8;
-    if kind == 0 {
-        return low;
-    }
-    if kind == 1 {
-        return top;
-    }
     let wide = top - low;
-    if kind < 4 {
-        return low + cut(d / 8, cut(99, wide));
+    match d % 8 {
+        0 => low,
+        1 => top,
+        2 | 3 => low + cut(d / 8, wide.min(99)),
+        _ => low + cut(d / 8, wide),
     }
-    low + cut(d / 8, wide)
 }
 
 // The bits of a float of +0 to a limit: an end, any bits, or one of the sixteen powers of two below the limit.
 fn magnitude(d: u64, limit: u64) -> u64 {
-    let kind = d % 8;
-    if kind == 0 {
-        return 0;
-    }
     if limit < 0x100_0000_0000_0000 {
         return 0;
     }
-    if kind == 1 {
-        return limit;
+    match d % 8 {
+        0 => 0,
+        1 => limit,
+        2 => d / 8 % limit,
+        _ => limit - d / 8 % 0x100_0000_0000_0000,
     }
-    if kind == 2 {
-        return d / 8 % limit;
-    }
-    limit - d / 8 % 0x100_0000_0000_0000
 }
 
 // A place's factor and weight, which is 0 where the place is no run.
@@ -78,15 +68,6 @@ fn place(run: bool, d: u64, low: u32, top: u32) -> u32 {
 fn settings(station: u32) -> Numbers {
     let n = station % 4096 * 16;
     let m = 1 + (station % 16) as usize;
-    let mut factors = [0u32; 16];
-    let mut weights = [0u32; 16];
-    let mut i = 0usize;
-    while i < RUNS {
-        let k = i as u32;
-        factors[i] = place(i < m, draw(n, k), FACTOR_LOW, FACTOR_TOP);
-        weights[i] = place(i < m, draw(n, k + 16), 1, WEIGHT_TOP);
-        i += 1;
-    }
     Numbers {
         group: Group { g: 3, m },
         q: if station % 64 == 63 {
@@ -96,8 +77,8 @@ fn settings(station: u32) -> Numbers {
         },
         r: number(draw(n, 81), 1, NOISE_TOP),
         p: number(draw(n, 82), 1, FIRST_TOP),
-        factors,
-        weights,
+        factors: array::from_fn(|i| place(i < m, draw(n, i as u32), FACTOR_LOW, FACTOR_TOP)),
+        weights: array::from_fn(|i| place(i < m, draw(n, i as u32 + 16), 1, WEIGHT_TOP)),
     }
 }
 
@@ -123,17 +104,10 @@ fn first(run: bool, plain: bool, p: u32, dx: u64, dv: u64) -> Estimate {
 
 fn start(station: u32, m: usize, p: u32) -> [Estimate; 16] {
     let n = station % 4096 * 16;
-    let mut state = [Estimate {
-        x: 0.0,
-        variance: 0.0,
-    }; 16];
-    let mut i = 0usize;
-    while i < RUNS {
+    array::from_fn(|i| {
         let k = i as u32;
-        state[i] = first(i < m, station % 4 == 0, p, draw(n, k + 48), draw(n, k + 64));
-        i += 1;
-    }
-    state
+        first(i < m, station % 4 == 0, p, draw(n, k + 48), draw(n, k + 64))
+    })
 }
 
 // The state's label of a round.
@@ -147,19 +121,14 @@ fn base_of(d: u64) -> u32 {
 
 // The round's label: all labels above the base, the base itself, far above it, or at most four above it.
 fn label_of(d: u64) -> u32 {
-    let kind = d % 16;
-    if kind == 0 {
-        return 4294967295;
-    }
     let base = (d / 16 % 2147483648) as u32;
     let far = (d / 34359738368 % 536870912) as u32;
-    if kind == 1 {
-        return base;
+    match d % 16 {
+        0 => u32::MAX,
+        1 => base,
+        2 | 3 => base + 1 + far,
+        _ => base + 1 + far % 4,
     }
-    if kind < 4 {
-        return base + 1 + far;
-    }
-    base + 1 + far % 4
 }
 
 // The mask of all m runs.
@@ -176,21 +145,15 @@ fn full_of(m: usize) -> u32
 // The chosen mask: none, a bit at m, all, one, or any.
 fn chosen_of(d: u64, m: usize) -> u32 {
     let full = full_of(m);
-    let kind = d % 64;
-    if kind == 0 {
-        return 0;
-    }
-    if kind == 1 {
-        return full + 1;
-    }
-    if kind < 16 {
-        return full;
-    }
-    if kind < 24 {
-        return (1u32 << (d / 64 % 16)) & full;
-    }
     let any = ((d / 64 % 65536) as u32) & full;
-    if any == 0 { full } else { any }
+    match d % 64 {
+        0 => 0,
+        1 => full + 1,
+        2..=15 => full,
+        16..=23 => (1u32 << (d / 64 % 16)) & full,
+        _ if any == 0 => full,
+        _ => any,
+    }
 }
 
 // A reading; one in 256 is out of range.
@@ -210,54 +173,21 @@ fn reading(run: bool, d: u64) -> u32 {
 }
 
 fn readings_of(n: u32, m: usize) -> [u32; 16] {
-    let mut readings = [0u32; 16];
-    let mut i = 0usize;
-    while i < RUNS {
-        readings[i] = reading(i < m, draw(n, (i as u32) + 32));
-        i += 1;
-    }
-    readings
-}
-
-fn digit(v: u64) -> u8 {
-    let d = (v % 16) as u8;
-    if d < 10 { b'0' + d } else { b'A' + (d - 10) }
-}
-
-// The 16 digits of v, and a byte.
-fn put(rt: &impl Print, v: u64, last: u8) -> io::Result<()> {
-    let mut line = [0u8; 17];
-    let mut left = v;
-    let mut i = 0usize;
-    while i < 16 {
-        line[15 - i] = digit(left);
-        left = left / 16;
-        i += 1;
-    }
-    line[16] = last;
-    rt.write_all(&line)
+    array::from_fn(|i| reading(i < m, draw(n, (i as u32) + 32)))
 }
 
 // A round's verdict by its number, and where it was taken each run's x, P and target.
-fn show(rt: &impl Print, m: usize, c: Checked) -> io::Result<()> {
-    let verdict = c.verdict;
-    let computed = c.computed;
-    let state = computed.state;
-    let targets = computed.targets;
-    if verdict.number() != 0 {
-        return rt.write_all(b"6\n");
-    }
-    rt.write_all(b"0\n")?;
-    let mut i = 0usize;
-    while i < RUNS {
-        if m <= i {
-            return Ok(());
-        }
-        let e = state[i];
-        put(rt, bits_of(e.x), b'\t')?;
-        put(rt, bits_of(e.variance), b'\t')?;
-        put(rt, bits_of(targets[i]), b'\n')?;
-        i += 1;
+fn show(rt: &impl Print, m: usize, answer: Result<Computed, Refusal>) -> io::Result<()> {
+    let computed = match answer {
+        Ok(computed) => computed,
+        Err(why) => return println!(rt; "{}", why.number()),
+    };
+    println!(rt; "0")?;
+    for (e, target) in computed.state.iter().zip(&computed.targets).take(m) {
+        let x = bits_of(e.x);
+        let variance = bits_of(e.variance);
+        let target = bits_of(*target);
+        println!(rt; "{x:016X}\t{variance:016X}\t{target:016X}")?;
     }
     Ok(())
 }
@@ -267,8 +197,7 @@ fn play(rt: &impl Print, station: u32) -> io::Result<()> {
     let numbers = settings(station);
     let m = numbers.group.m;
     let mut state = start(station, m, numbers.p);
-    let mut i = 0u32;
-    while i < 16 {
+    for i in 0..16 {
         let n = station % 4096 * 16 + i;
         let d = draw(n, 83);
         let c = compute_checked(
@@ -279,208 +208,149 @@ fn play(rt: &impl Print, station: u32) -> io::Result<()> {
             chosen_of(draw(n, 84), m),
             readings_of(n, m),
         );
-        let computed = c.computed;
-        state = computed.state;
+        if let Ok(computed) = c {
+            state = computed.state;
+        }
         show(rt, m, c)?;
-        i += 1;
     }
     Ok(())
 }
 
-// The settings with the clause k broken, where it is one of theirs.
-fn odd_settings(k: u32, from: Numbers) -> Numbers {
-    let mut s = from;
-    let m = s.group.m;
-    if k == 1 {
-        let group = Group { g: 0, m };
-        s.group = group;
-    }
-    if k == 2 {
-        let group = Group { g: 3, m: 17 };
-        s.group = group;
-    }
-    if k == 3 {
-        let group = Group { g: 8, m };
-        s.group = group;
-    }
-    if k == 4 {
-        s.q = 0;
-    }
-    if k == 5 {
-        s.q = NOISE_TOP + 1;
-    }
-    if k == 6 {
-        s.r = 0;
-    }
-    if k == 7 {
-        s.r = NOISE_TOP + 1;
-    }
-    if k == 8 {
-        s.p = 0;
-    }
-    if k == 9 {
-        s.p = FIRST_TOP + 1;
-    }
-    s
+// A round, as `compute_checked` takes it.
+#[derive(Clone, Copy)]
+struct Round {
+    label: u32,
+    base: u32,
+    state: [Estimate; 16],
+    numbers: Numbers,
+    chosen: u32,
+    readings: [u32; 16],
 }
 
-// The same of the places of factors and weights.
-fn odd_places(k: u32, from: Numbers) -> Numbers {
-    let mut s = from;
-    if k == 10 {
-        s.factors[0] = FACTOR_LOW - 1;
-    }
-    if k == 11 {
-        s.factors[2] = FACTOR_TOP + 1;
-    }
-    if k == 12 {
-        s.weights[0] = 0;
-    }
-    if k == 13 {
-        s.weights[2] = WEIGHT_TOP + 1;
-    }
-    if k == 14 {
-        s.factors[3] = 10000;
-    }
-    if k == 15 {
-        s.weights[15] = 1;
-    }
-    s
+// What is changed in a round in range, so that one clause of "in range" is broken: a number, or what stands at a run.
+#[derive(Clone, Copy)]
+enum Odd {
+    Nothing,
+    Controllers(usize),
+    Runs(usize),
+    Q(u32),
+    R(u32),
+    P(u32),
+    Factor(usize, u32),
+    Weight(usize, u32),
+    X(usize, f64),
+    Variance(usize, f64),
+    Base(u32),
+    Label(u32),
+    Chosen(u32),
+    Reading(usize, u32),
 }
 
-// A float that is no x and no P, by its number: past the limit, NaN, -0, infinity, the smallest above 0, 1.
-fn odd_float(kind: u32, limit: u64) -> f64 {
-    if kind == 0 {
-        return float_of(limit);
-    }
-    if kind == 1 {
-        return 0.0 / 0.0;
-    }
-    if kind == 2 {
-        return 0.0 * (0.0 - 1.0);
-    }
-    if kind == 3 {
-        return float_of(0x7ff0_0000_0000_0000);
-    }
-    if kind == 4 { float_of(1) } else { 1.0 }
-}
+// A round in range and 35 that are not: floats are the first past a limit, no number, -0, infinite, or stand past the runs.
+const ODD: [Odd; 36] = [
+    Odd::Nothing,
+    Odd::Controllers(0),
+    Odd::Runs(17),
+    Odd::Controllers(8),
+    Odd::Q(0),
+    Odd::Q(NOISE_TOP + 1),
+    Odd::R(0),
+    Odd::R(NOISE_TOP + 1),
+    Odd::P(0),
+    Odd::P(FIRST_TOP + 1),
+    Odd::Factor(0, FACTOR_LOW - 1),
+    Odd::Factor(2, FACTOR_TOP + 1),
+    Odd::Weight(0, 0),
+    Odd::Weight(2, WEIGHT_TOP + 1),
+    Odd::Factor(3, 10000),
+    Odd::Weight(15, 1),
+    Odd::X(0, 1100000.0000000002),
+    Odd::Variance(2, 1000000000.0000001),
+    Odd::X(2, f64::NAN),
+    Odd::Variance(0, f64::NAN),
+    Odd::X(0, -0.0),
+    Odd::Variance(2, -0.0),
+    Odd::X(2, f64::INFINITY),
+    Odd::Variance(0, f64::INFINITY),
+    Odd::X(3, 5e-324),
+    Odd::Variance(3, 1.0),
+    Odd::X(15, -0.0),
+    Odd::Variance(15, f64::NAN),
+    Odd::Base(5),
+    Odd::Label(3),
+    Odd::Chosen(0),
+    Odd::Chosen(8),
+    Odd::Chosen(65536),
+    Odd::Reading(0, RAW_TOP + 1),
+    Odd::Reading(3, 1),
+    Odd::Reading(15, 1),
+];
 
-// The place of a state that the clause k breaks, and what it is given there.
-fn odd_place(k: u32) -> usize {
-    if k == 24 || k == 25 {
-        return 3;
-    }
-    if k == 26 || k == 27 {
-        return 15;
-    }
-    if k == 16 || k == 19 || k == 20 || k == 23 {
-        0
-    } else {
-        2
-    }
-}
-
-fn odd_estimate(k: u32, e: Estimate) -> Estimate {
-    let x = e.x;
-    let variance = e.variance;
-    if k == 16 {
-        return Estimate {
-            x: odd_float(0, X_BITS + 1),
-            variance,
-        };
-    }
-    if k == 17 {
-        return Estimate {
-            x,
-            variance: odd_float(0, VARIANCE_BITS + 1),
-        };
-    }
-    if k == 18 || k == 20 || k == 22 {
-        return Estimate {
-            x: odd_float(k / 2 % 4, 0),
-            variance,
-        };
-    }
-    if k == 19 || k == 21 || k == 23 {
-        return Estimate {
-            x,
-            variance: odd_float(k / 2 % 4, 0),
-        };
-    }
-    if k == 24 {
-        return Estimate {
-            x: odd_float(4, 0),
-            variance,
-        };
-    }
-    if k == 25 {
-        return Estimate {
-            x,
-            variance: odd_float(5, 0),
-        };
-    }
-    if k == 26 {
-        return Estimate {
-            x: odd_float(2, 0),
-            variance,
-        };
-    }
-    Estimate {
-        x,
-        variance: odd_float(1, 0),
-    }
-}
-
-// The state with the clause k broken, where it is one of a state's.
-fn odd_state(k: u32, from: [Estimate; 16]) -> [Estimate; 16] {
-    let mut state = from;
-    if 16 <= k && k < 28 {
-        let i = odd_place(k);
-        if i < RUNS {
-            state[i] = odd_estimate(k, state[i]);
-        }
-    }
-    state
-}
-
-// Two readings, or these with the clause k broken.
-fn odd_readings(k: u32) -> [u32; 16] {
+// Readings of runs 0 and 2.
+fn two_readings() -> [u32; 16] {
     let mut readings = [0u32; 16];
-    readings[0] = if k == 33 { RAW_TOP + 1 } else { 200000 };
+    readings[0] = 200000;
     readings[2] = RAW_TOP;
-    if k == 34 {
-        readings[3] = 1;
-    }
-    if k == 35 {
-        readings[15] = 1;
-    }
     readings
 }
 
-// The chosen mask: runs 0 and 2, or with the clause k broken.
-fn odd_mask(k: u32) -> u32 {
-    if k == 30 {
-        return 0;
+// What stands at place i, where there is such a place.
+fn put<T: Copy>(places: &mut [T], i: usize, x: T) {
+    if i < places.len() {
+        places[i] = x;
     }
-    if k == 31 {
-        return 8;
-    }
-    if k == 32 { 65536 } else { 5 }
 }
 
-// A round in range, where k is 0, or with the clause k broken; that m is 17 is of a station of sixteen runs.
-fn broken(rt: &impl Print, k: u32) -> io::Result<()> {
-    let station = if k == 2 { 15u32 } else { 2u32 };
+fn changed(round: Round, odd: Odd) -> Round {
+    let mut next = round;
+    match odd {
+        Odd::Nothing => {}
+        Odd::Controllers(g) => next.numbers.group.g = g,
+        Odd::Runs(m) => next.numbers.group.m = m,
+        Odd::Q(n) => next.numbers.q = n,
+        Odd::R(n) => next.numbers.r = n,
+        Odd::P(n) => next.numbers.p = n,
+        Odd::Factor(run, n) => put(&mut next.numbers.factors, run, n),
+        Odd::Weight(run, n) => put(&mut next.numbers.weights, run, n),
+        Odd::X(run, x) => {
+            if let Some(e) = next.state.get_mut(run) {
+                e.x = x;
+            }
+        }
+        Odd::Variance(run, variance) => {
+            if let Some(e) = next.state.get_mut(run) {
+                e.variance = variance;
+            }
+        }
+        Odd::Base(n) => next.base = n,
+        Odd::Label(n) => next.label = n,
+        Odd::Chosen(mask) => next.chosen = mask,
+        Odd::Reading(run, raw) => put(&mut next.readings, run, raw),
+    }
+    next
+}
+
+// A round in range, or with one thing in it changed; seventeen runs are those of a station of sixteen.
+fn broken(rt: &impl Print, odd: Odd) -> io::Result<()> {
+    let station = if matches!(odd, Odd::Runs(_)) { 15 } else { 2 };
     let numbers = settings(station);
     let m = numbers.group.m;
-    let state = start(station, m, numbers.p);
+    let round = Round {
+        label: 5,
+        base: 4,
+        state: start(station, m, numbers.p),
+        numbers,
+        chosen: 5,
+        readings: two_readings(),
+    };
+    let r = changed(round, odd);
     let c = compute_checked(
-        RoundLabel(if k == 29 { 3 } else { 5 }),
-        StateLabel(if k == 28 { 5 } else { 4 }),
-        odd_state(k, state),
-        odd_places(k, odd_settings(k, numbers)),
-        odd_mask(k),
-        odd_readings(k),
+        RoundLabel(r.label),
+        StateLabel(r.base),
+        r.state,
+        r.numbers,
+        r.chosen,
+        r.readings,
     );
     show(rt, m, c)
 }
@@ -503,36 +373,15 @@ fn alone(rt: &impl Print, j: u32) -> io::Result<()> {
     )
 }
 
-// A round in range and 35 that are not, then one run alone.
-fn play_odd(rt: &impl Print) -> io::Result<()> {
-    let mut k = 0u32;
-    while k < 36 {
-        broken(rt, k)?;
-        k += 1;
-    }
-    Ok(())
-}
-
-fn play_alone(rt: &impl Print) -> io::Result<()> {
-    let mut j = 0u32;
-    while j < 200 {
-        alone(rt, j)?;
-        j += 1;
-    }
-    Ok(())
-}
-
-fn play_drawn(rt: &impl Print) -> io::Result<()> {
-    let mut station = 0u32;
-    while station < 144 {
-        play(rt, station)?;
-        station += 1;
-    }
-    Ok(())
-}
-
 fn main(rt: HostRuntime) -> io::Result<()> {
-    play_drawn(&rt)?;
-    play_odd(&rt)?;
-    play_alone(&rt)
+    for station in 0..144 {
+        play(&rt, station)?;
+    }
+    for odd in ODD {
+        broken(&rt, odd)?;
+    }
+    for j in 0..200 {
+        alone(&rt, j)?;
+    }
+    Ok(())
 }

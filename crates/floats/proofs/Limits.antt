@@ -6,9 +6,8 @@ use native.Mathlib.Nat.{mod-eq_of_lt, le_trans, le_of_eq, mul-one, mul-le-mul_ri
 use native.Mathlib.Omega.{arith}
 use lib.Dec.{T, leb, ltb, eqb, lit<, lit≤}
 use lib.IntN.{pos}
-use lib.Ieee.{Float, nan, inf, fin, binary64, up, down, fits, of_bits, of_int, to_bits, nan_bits, is_nan, eq, ne}
+use lib.Ieee.{Float, nan, inf, fin, binary64, up, down, fits, of_bits, of_int, to_bits, nan_bits, is_nan, eq}
 use lib.Ieee.Bits.{of_bits-to_bits, to_bits-of_bits, of_bits-fits, nan_bits_is, nan_bits_above, is_true}
-use lib.Ieee.Compare.{differs_from_itself}
 use lib.Ieee.Exact.{HasValue}
 use lib.Ieee.Fits.{down_pos, of_int-fits}
 use borrow.Author.Tests.{le-leb, lt-leb, leb-true, le-ltb, eqb-true, eq-eqb}
@@ -58,6 +57,10 @@ true_t h = subst T (sym h) tt
 pub bits_test : (n L : ℕ) → Limit n L → (v : Float) → fits binary64 v ≡ true → leb (bits_of v) L ≡ up_to n v
 unfolding bits_of
 bits_test n L l v f = bits_value n L l.exact l.at l.finite v (true_t f)
+
+-- the same of the bits that the code has found
+pub found_test : {n L : ℕ} → Limit n L → (v : Float) {b : ℕ} → b ≡ bits_of v → fits binary64 v ≡ true → leb b L ≡ up_to n v
+found_test {n} {L} l v e f = ap (λ (b : ℕ). leb b L) e ∙ bits_test n L l v f
 
 pub range_bits : (n L : ℕ) → Limit n L → (v : Float) → up_to n v ≡ true → bits_of v ≤ L
 range_bits n L l v h = leb-true _ _ (bits_test n L l v (range_fits n v h) ∙ h)
@@ -150,17 +153,9 @@ nought_is = refl
 pub nought_range : (n : ℕ) → up_to n nought ≡ true
 nought_range n = ap (up_to n) nought_is ∙ whole_range 0 n zero-le zero-le
 
--- what is not equal to itself is the NaN
-pub self_number : (v : Float) → eq v v ≡ true → T (not (is_nan v))
-unfolding eq is_nan
-self_number nan h = absurd (true≢false (sym h))
-self_number (inf s) h = tt
-self_number (fin s m e) h = tt
-
-pub not_self : (v : Float) → eq v v ≡ false → v ≡ nan
-unfolding ne
-not_self v h = differs_from_itself v (subst (λ (b : Bool). T (not b)) (sym h) tt)
-
-pub nan_bits_lem : bits_of nan ≡ 0x7ff8_0000_0000_0000
-unfolding bits_of to_bits
-nan_bits_lem = refl
+-- a NaN's bits
+pub nan_bits_lem : (v : Float) → is_nan v ≡ true → 0x7ff8_0000_0000_0000 ≡ bits_of v
+unfolding is_nan bits_of to_bits
+nan_bits_lem nan h = refl
+nan_bits_lem (inf s) h = absurd (true≢false (sym h))
+nan_bits_lem (fin s m e) h = absurd (true≢false (sym h))

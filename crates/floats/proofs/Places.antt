@@ -1,6 +1,6 @@
 -- The sixteen places of a state and of the targets: what it means that they are in range, and that two states are the same. Assumes nothing.
 use mathlib.Core.Path.{◌≡◌, sym, ◌∙◌, ap, ap₂}
-use mathlib.Core.Bool.{Bool, true, ◌&&◌}
+use mathlib.Core.Bool.{Bool, true}
 use mathlib.Core.List.{List}
 use mathlib.Core.Logic.{by_cases}
 use Prim.Native.Nat.{ℕ, ◌≤◌, ◌<◌}
@@ -124,18 +124,6 @@ targets_exact m ts = (
   λ h. record { sixteen = targets_length m ts h; target = λ i l b. targets_run m ts i h l b; none = λ i l b. targets_blank m ts i h l b },
   λ f. targets_made m ts f.sixteen f.target f.none,
 )
-
--- ---- what the loops over the sixteen places find
-pub every_end : (f : ℕ → Bool) (fit : Bool) (i : ℕ) → fit ≡ every f i → i ≤ 16 → 16 ≤ i → fit ≡ every f 16
-every_end f fit i h a b = let e : i ≡ 16 = omega arith in h ∙ ap (every f) e
-
-pub state_test : (m : ℕ) (s : List Estimate) → length s ≡ 16 → every (state_at m s) 16 ≡ state_fits m s
-unfolding state_fits
-state_test m s e = sym (ap (λ (t : Bool). t && every (state_at m s) 16) (eq-eqb (length s) 16 e))
-
-pub targets_test : (m : ℕ) (ts : List Float) → length ts ≡ 16 → every (target_at m ts) 16 ≡ targets_fit m ts
-unfolding targets_fit
-targets_test m ts e = sym (ap (λ (t : Bool). t && every (target_at m ts) 16) (eq-eqb (length ts) 16 e))
 
 -- ---- the same state
 pub same_state_is : (a b : List Estimate) → length a ≡ 16 → length b ≡ 16 → same_state a b ≡ true → a ≡ b

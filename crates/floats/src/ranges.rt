@@ -1,35 +1,16 @@
 // Whether floats are in their ranges, +0 and the limit with them; places that are no run hold +0.
 ghost use Rattle.std.specs.Prelude.{◌≡◌};
-ghost use Rattle.units.specs.Limits.{x_top, variance_top, target_top};
-ghost use Rattle.floats.specs.Ranges.{up_to, estimate_fits, estimate_place, state_fits, target_place, targets_fit};
+ghost use Rattle.floats.specs.Ranges.{estimate_fits, estimate_place, state_fits, target_place, targets_fit};
 
 use crate::bits::{TARGET_BITS, VARIANCE_BITS, X_BITS, bits_of};
 use crate::same::{is_blank, is_nought};
 use units::Estimate;
-use units::limits::RUNS;
 
-fn x_in_range(x: f64) -> bool
-    ensures { result ≡ up_to x_top x }
-{
-    bits_of(x) <= X_BITS
-}
-
-fn variance_in_range(variance: f64) -> bool
-    ensures { result ≡ up_to variance_top variance }
-{
-    bits_of(variance) <= VARIANCE_BITS
-}
-
-fn target_in_range(target: f64) -> bool
-    ensures { result ≡ up_to target_top target }
-{
-    bits_of(target) <= TARGET_BITS
-}
-
+#[tactic(auto, using(crate::proofs::Limits::x_limit, crate::proofs::Limits::variance_limit, crate::proofs::Limits::found_test), unfolding(crate::specs::Ranges::estimate_fits))]
 fn estimate_in_range(e: Estimate) -> bool
     ensures { result ≡ estimate_fits e }
 {
-    x_in_range(e.x) & variance_in_range(e.variance)
+    (bits_of(e.x) <= X_BITS) & (bits_of(e.variance) <= VARIANCE_BITS)
 }
 
 // Whether a place holds a run's estimate in range, or nothing where it is no run.
@@ -46,21 +27,19 @@ fn estimate_place(run: bool, e: Estimate) -> bool
 pub fn state_in_range(state: [Estimate; 16], m: usize) -> bool
     ensures { result ≡ state_fits m state }
 {
-    let mut fit = true;
-    let mut i = 0usize;
-    while i < RUNS {
-        fit = fit & estimate_place(i < m, state[i]);
-        i += 1;
-    }
-    fit
+    state
+        .iter()
+        .enumerate()
+        .all(|(i, e)| estimate_place(i < m, *e))
 }
 
 // Whether a place holds a run's target in range, or +0 where it is no run.
+#[tactic(auto, using(crate::proofs::Limits::target_limit, crate::proofs::Limits::found_test))]
 fn target_place(run: bool, target: f64) -> bool
     ensures { result ≡ target_place run target }
 {
     if run {
-        target_in_range(target)
+        bits_of(target) <= TARGET_BITS
     } else {
         is_nought(target)
     }
@@ -69,11 +48,8 @@ fn target_place(run: bool, target: f64) -> bool
 pub fn targets_in_range(targets: [f64; 16], m: usize) -> bool
     ensures { result ≡ targets_fit m targets }
 {
-    let mut fit = true;
-    let mut i = 0usize;
-    while i < RUNS {
-        fit = fit & target_place(i < m, targets[i]);
-        i += 1;
-    }
-    fit
+    targets
+        .iter()
+        .enumerate()
+        .all(|(i, target)| target_place(i < m, *target))
 }

@@ -5,8 +5,8 @@ ghost use Rattle.floats.specs.Ranges.{blank, same_estimate, same_state};
 
 use crate::bits::bits_of;
 use units::Estimate;
-use units::limits::RUNS;
 
+#[tactic(auto, using(crate::proofs::Limits::same_test))]
 fn same_float(x: f64, y: f64) -> bool
     ensures { result ≡ same_float x y }
 {
@@ -27,6 +27,7 @@ fn same_estimate(a: Estimate, b: Estimate) -> bool
 }
 
 // Whether an estimate is +0 and +0.
+#[tactic(auto, unfolding(crate::specs::Ranges::same_estimate))]
 pub(crate) fn is_blank(e: Estimate) -> bool
     ensures { result ≡ same_estimate e blank }
 {
@@ -36,11 +37,5 @@ pub(crate) fn is_blank(e: Estimate) -> bool
 pub fn same_state(a: [Estimate; 16], b: [Estimate; 16]) -> bool
     ensures { result ≡ same_state a b }
 {
-    let mut same = true;
-    let mut i = 0usize;
-    while i < RUNS {
-        same = same & same_estimate(a[i], b[i]);
-        i += 1;
-    }
-    same
+    a.iter().zip(&b).all(|(x, y)| same_estimate(*x, *y))
 }

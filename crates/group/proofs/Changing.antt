@@ -70,7 +70,6 @@ module _ (s : Numbers) (low : RoundLabel) (P : Handing) where
   above_put w o i u f = record { each = λ j c e. ⊎_elim (λ p. f c p.1) (λ p. o.each j c p.1) (put_cases w.up i u j c e); said = o.said }
 
   above_handed : (w : World) → Above w → (i : ℕ) (a : Message) → FloorsFrom low P w i a → (u : Option Controller) → w.up i ≡ u → Above (handed s w i a u)
-  unfolding started
   above_handed w o i a p none e =
       above_put w o i (rising s a.head)
       (λ n k. let z = risen_by s a.head n k in subst High (sym z.is) (start_high z.own z.low (p.floors z.own z.low z.by)))

@@ -1,4 +1,5 @@
 -- THE LEMMAS BY NAME, each of every run that keeps what is enough (`weaker` makes such a run of one that keeps the premises as they are worded). Assumes nothing beyond the premises.
+use Rattle.std.specs.Prelude.{Err, Some}
 use Prim.Native.Nat.{ℕ, ◌≤◌, ◌<◌}
 use native.Mathlib.Omega.{arith}
 use mathlib.Core.Path.{◌≡◌, refl, sym, ap, subst, ◌∙◌}
@@ -13,7 +14,6 @@ use Rattle.units.specs.declared.estimate.Estimate.{Estimate}
 use Rattle.units.specs.declared.labels.RoundLabel.{RoundLabel}
 use Rattle.units.specs.declared.labels.StateLabel.{StateLabel}
 use Rattle.units.specs.declared.refusal.Refusal.TheVariants.{Clash}
-use Rattle.units.specs.declared.refusal.Verdict.TheVariants.{Refused as Denied}
 use Rattle.units.specs.declared.settings.Group.{Group}
 use Rattle.units.specs.declared.settings.Numbers.{Numbers}
 use Rattle.units.specs.Labels.{round_fits}
@@ -24,7 +24,6 @@ use Rattle.units.proofs.Masks.{in_and}
 use Rattle.floats.specs.Ranges.{same_state}
 use Rattle.floats.proofs.Places.{same_state_self}
 use Rattle.vote.specs.declared.digest.Digest.{Digest}
-use Rattle.vote.specs.declared.votes.Ballot.TheVariants.{Cast}
 use Rattle.vote.specs.Digest.{legal}
 use Rattle.message.specs.declared.head.Head.{Head}
 use Rattle.message.specs.declared.head.Head.TheVariants.{Reading, Reply, Update, Vote}
@@ -83,7 +82,7 @@ module _ (s : Numbers) (meters : Meters) {w : World} (run : Run s (Enough meters
   sent_in_range = (once s meters run).lines
 
   -- HELD VOTES ARE RELEASED VOTES
-  pub held_released : (i : ℕ) (c : Controller) → w.up i ≡ some c → (j : ℕ) (d : Digest) → ballot_at c j ≡ Cast d → Released w.sent j c.label d
+  pub held_released : (i : ℕ) (c : Controller) → w.up i ≡ some c → (j : ℕ) (d : Digest) → ballot_at c j ≡ Some d → Released w.sent j c.label d
   held_released i c e j d q = ((sound_run s meters run).each i c e).votes j d q
 
   -- the state of a state label, wherever it is, is the one that the run fixes
@@ -101,7 +100,7 @@ module _ (s : Numbers) (meters : Meters) {w : World} (run : Run s (Enough meters
   one_reading (in_message {x} {sender} {label} {mask} {meter} m e k h) = ((sound_run s meters run).said x m).readings sender label mask e meter k h
 
   -- 11 IS NEVER GIVEN for a message of the group's own, nor for a reading
-  pub no_clash : (i : ℕ) (c : Controller) → w.up i ≡ some c → (a : Message) → Enough meters w i a → (stepped s c a).verdict ≡ Denied Clash → ⊥
+  pub no_clash : (i : ℕ) (c : Controller) → w.up i ≡ some c → (a : Message) → Enough meters w i a → (stepped s c a).verdict ≡ Err Clash → ⊥
   unfolding agrees
   no_clash i c at a p q = let k = clash_only s c a q in clash a.head refl k.1
     where

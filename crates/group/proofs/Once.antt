@@ -1,4 +1,5 @@
 -- ONE NUMBER RELEASES AT MOST ONE DIGEST FOR A LABEL, and a legal one. Assumes nothing beyond the premises.
+use Rattle.std.specs.Prelude.{Ok}
 use Prim.Native.Nat.{ℕ, ◌≤◌, ◌<◌}
 use native.Mathlib.Omega.{arith}
 use mathlib.Core.Path.{◌≡◌, refl, sym, ap, subst, ◌∙◌}
@@ -8,7 +9,6 @@ use mathlib.Core.List.{Memᴰ}
 use mathlib.Core.Logic.{◌⊎◌, inl, inr, ⊎_elim}
 use mathlib.Core.Option.{Option, none, some}
 use Rattle.units.specs.declared.labels.RoundLabel.{RoundLabel}
-use Rattle.units.specs.declared.refusal.Verdict.TheVariants.{Taken}
 use Rattle.units.specs.declared.settings.Numbers.{Numbers}
 use Rattle.units.proofs.Every.{absurd_by}
 use Rattle.vote.specs.declared.digest.Digest.{Digest}
@@ -194,9 +194,9 @@ module _ (s : Numbers) (meters : Meters) where
 
   -- B to a number that is down
   may_rise_up : (w : World) (i own : ℕ) (low : RoundLabel) → own ≡ i → ((label : RoundLabel) (d : Digest) → Released w.sent i label d → label.0 ≤ low.0)
-      → (started s own low).verdict ≡ Taken → May w i (started s own low).controller
-  unfolding started start_of
-  may_rise_up w i own low q b t = record { own = q; fit = started_fits s own low t; bound = b; early = λ label d p k. absurd k }
+      → started s own low ≡ Ok (start_of s own low) → May w i (start_of s own low)
+  unfolding start_of
+  may_rise_up w i own low q b t = record { own = q; fit = started_fits s own low (start_of s own low) t; bound = b; early = λ label d p k. absurd k }
 
   once_handed : (w : World) → Once w → (i : ℕ) (a : Message) → Enough meters w i a → (u : Option Controller) → w.up i ≡ u → Once (handed s w i a u)
   once_handed w o i a p none e =

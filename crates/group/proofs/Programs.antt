@@ -1,4 +1,5 @@
 -- A RUN OF STATIONS IS MADE OF PROGRAMS THAT GO BY TURNS, each as a session goes that is fed its lines in any pieces. Assumes nothing.
+use Rattle.std.specs.Prelude.{Ok}
 use Prim.Native.Nat.{ℕ}
 use mathlib.Core.Path.{◌≡◌, refl, sym, ap, subst, ◌∙◌}
 use mathlib.Core.Bool.{true}
@@ -8,7 +9,6 @@ use mathlib.Core.Logic.{◌⊎◌, inl, inr, ⊎_elim}
 use mathlib.Core.Option.{Option, none, some}
 use lib.Dec.{eqb}
 use Rattle.units.specs.declared.labels.RoundLabel.{RoundLabel}
-use Rattle.units.specs.declared.refusal.Verdict.TheVariants.{Taken}
 use Rattle.units.specs.declared.settings.Numbers.{Numbers}
 use Rattle.units.specs.Pick.{pick}
 use Rattle.message.specs.declared.head.Head.TheVariants.{Start}
@@ -181,7 +181,7 @@ module _ (s : Numbers) (meters : Meters) where
 
   -- ---- ANOTHER NUMBER, OR THE SAME ONE AGAIN: B to a program that runs leads where a boot with the same settings and the same B lead, and writes the same
   pub starts_anew : {w : Stations} (run : OnwardStations s meters empty w) (i : ℕ) (c : Core) (l : Life) → w.up i ≡ some c → lives run i ≡ some l → c.stage ≡ Running
-      → (ln : List ℕ) (j : ℕ) (floor : RoundLabel) → (read_line s.group ln).verdict ≡ Taken → (read_as s ln).head ≡ Start j floor
+      → (ln : List ℕ) (j : ℕ) (floor : RoundLabel) → (read_line s.group ln).verdict ≡ Ok tt → (read_as s ln).head ≡ Start j floor
       → turn c ln ≡ turn (led core_start l.settings) ln
   starts_anew {w} run i c l p q e ln j floor v h =
       let g = goes_of (w.up i) (lives run i) c l p q (all_stand run i) in

@@ -1,4 +1,5 @@
 -- Which controller a number has after an event, and which messages are new. Assumes nothing.
+use Rattle.std.specs.Prelude.{Result, Err, None, Ok, Some}
 use Prim.Native.Nat.{ℕ}
 use mathlib.Core.Path.{◌≡◌, refl, sym, ap, subst, ◌∙◌}
 use mathlib.Core.List.Memᴰ
@@ -8,8 +9,7 @@ use mathlib.Core.Option.{Option, none, some, some-injective, none-ne-some}
 use lib.Dec.{eqb}
 use borrow.Author.Tests.{eqb-true, eqb-false, eq-eqb}
 use Rattle.units.specs.declared.labels.RoundLabel.{RoundLabel}
-use Rattle.units.specs.declared.refusal.Verdict.{Verdict}
-use Rattle.units.specs.declared.refusal.Verdict.TheVariants.{Taken, Refused as Denied}
+use Rattle.units.specs.declared.refusal.Refusal.{Refusal}
 use Rattle.units.specs.declared.settings.Numbers.{Numbers}
 use Rattle.units.specs.Pick.{pick}
 use Rattle.fields.proofs.Cases.{by_test}
@@ -19,14 +19,14 @@ use Rattle.message.specs.declared.head.Head.TheVariants.{Vote, Start}
 use Rattle.message.specs.declared.value.Message.{Message}
 use Rattle.message.specs.View.{as_start}
 use Rattle.message.proofs.Views.{start_seen, by_kind}
-use Rattle.plan.specs.declared.planned.Sent.{Sent}
-use Rattle.plan.specs.declared.planned.Sent.TheVariants.{Nothing, One}
+use Rattle.plan.specs.Plan.{Sent}
 use Rattle.controller.specs.declared.state.Controller.{Controller}
 use Rattle.controller.specs.declared.step.Answer.{Answer}
 use Rattle.controller.specs.Sent.{sent_message}
-use Rattle.controller.specs.Start.{started}
+use Rattle.controller.specs.Start.{start_of, started}
 use Rattle.controller_laws.specs.Changes.{NoStart}
 use Rattle.controller_laws.specs.Sendings.{IsSent}
+use Rattle.controller_laws.proofs.Fits.{started_is}
 use Rattle.controller_laws.proofs.Outcomes.{sent_head}
 use Rattle.controller_laws.proofs.Ways.{on_pick}
 use Rattle.group.specs.World.{put, sending, sent_by, begun, rising}
@@ -59,15 +59,17 @@ pub record Risen (s : Numbers) (h : Head) (n : Controller) : Type 0 where
   pub own : ℕ
   pub low : RoundLabel
   pub by : h ≡ Start own low
-  pub taken : (started s own low).verdict ≡ Taken
-  pub is : n ≡ (started s own low).controller
+  pub taken : started s own low ≡ Ok (start_of s own low)
+  pub is : n ≡ start_of s own low
 
 pub risen_by : (s : Numbers) (h : Head) (n : Controller) → rising s h ≡ some n → Risen s h n
-risen_by s h n e = by_kind (λ (k : Head). rising s k ≡ some n → Risen s k n) (λ v. from v.0 v.1 (started s v.0 v.1).verdict refl) (λ k q r. no_one (rw q at r)) (start_seen h) e
+risen_by s h n e = by_kind (λ (k : Head). rising s k ≡ some n → Risen s k n) (λ v. from v.0 v.1 (started s v.0 v.1) refl) (λ k q r. no_one (rw q at r)) (start_seen h) e
   where
-    from : (own : ℕ) (low : RoundLabel) (v : Verdict) → (started s own low).verdict ≡ v → begun (started s own low).controller v ≡ some n → Risen s (Start own low) n
-    from own low Taken q e = record { own = own; low = low; by = refl; taken = q; is = sym (same_one e) }
-    from own low (Denied why) q e = no_one e
+    from : (own : ℕ) (low : RoundLabel) (v : Result Controller Refusal) → started s own low ≡ v → begun v ≡ some n → Risen s (Start own low) n
+    from own low (Ok c) q e =
+        let z = started_is s own low c q in
+        record { own = own; low = low; by = refl; taken = q ∙ ap Ok z; is = sym (same_one e) ∙ z }
+    from own low (Err why) q e = no_one e
 
 -- ---- the messages
 -- a message that a step has sent
@@ -77,13 +79,13 @@ pub record Fresh (s : Numbers) (r : Answer) (x : Message) : Type 0 where
   pub whole : x ≡ sent_message s r.next head
 
 module _ (s : Numbers) (r : Answer) (x : Message) (old : List Message) where
-  in_sending : (t : Sent) → ((head : Head) → t ≡ One head → IsSent r head) → Memᴰ x (sending s r.next t old) → Fresh s r x ⊎ Memᴰ x old
-  in_sending Nothing f m = inr m
-  in_sending (One head) f m = elim (Memᴰ.cases_cons m) [ inl e ↦ inl (record { head = head; out = f head refl; whole = e }) | inr n ↦ inr n ]
+  in_sending : (t : Sent) → ((head : Head) → t ≡ Some head → IsSent r head) → Memᴰ x (sending s r.next t old) → Fresh s r x ⊎ Memᴰ x old
+  in_sending None f m = inr m
+  in_sending (Some head) f m = elim (Memᴰ.cases_cons m) [ inl e ↦ inl (record { head = head; out = f head refl; whole = e }) | inr n ↦ inr n ]
 
   past_sending : (t : Sent) → Memᴰ x old → Memᴰ x (sending s r.next t old)
-  past_sending Nothing m = m
-  past_sending (One head) m = Memᴰ.tail m
+  past_sending None m = m
+  past_sending (Some head) m = Memᴰ.tail m
 
 module _ (s : Numbers) (r : Answer) (old : List Message) where
   -- a message is one that this step sent, or an older one
@@ -100,7 +102,7 @@ module _ (s : Numbers) (r : Answer) (old : List Message) where
   pub now_sent : (head : Head) → IsSent r head → Memᴰ (sent_message s r.next head) (sent_by s r old)
   now_sent head (inl e) = past_sending s r _ (sending s r.next r.first old) r.second (first r.first e)
     where
-      first : (t : Sent) → t ≡ One head → Memᴰ (sent_message s r.next head) (sending s r.next t old)
+      first : (t : Sent) → t ≡ Some head → Memᴰ (sent_message s r.next head) (sending s r.next t old)
       first t e = subst (λ (u : Sent). Memᴰ (sent_message s r.next head) (sending s r.next u old)) (sym e) (Memᴰ.head refl)
   now_sent head (inr e) =
       subst (λ (u : Sent). Memᴰ (sent_message s r.next head) (sending s r.next u (sending s r.next r.first old))) (sym e) (Memᴰ.head refl)

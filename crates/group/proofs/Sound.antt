@@ -1,4 +1,5 @@
 -- WHAT EVERY CONTROLLER HOLDS AND EVERY MESSAGE SAYS IS TRUE OF THE WHOLE RUN: the one reading, the released votes, the one state of a label. Assumes nothing beyond the premises.
+use Rattle.std.specs.Prelude.{Some}
 use Prim.Native.Nat.{ℕ, ◌≤◌, ◌<◌}
 use mathlib.Core.Path.{◌≡◌, refl, sym, ap, subst, ◌∙◌}
 use mathlib.Core.Bool.{Bool, true, true≢false}
@@ -16,7 +17,6 @@ use Rattle.units.specs.Mask.{in_mask}
 use Rattle.units.proofs.Every.{and_right, absurd_by}
 use Rattle.units.proofs.Masks.{no_run, in_and}
 use Rattle.vote.specs.declared.digest.Digest.{Digest}
-use Rattle.vote.specs.declared.votes.Ballot.TheVariants.{Cast}
 use Rattle.vote.specs.Vote.{seated}
 use Rattle.vote.proofs.Decided.{decided_small}
 use Rattle.filter.specs.Compute.{set_points}
@@ -59,7 +59,7 @@ module _ (s : Numbers) (meters : Meters) (sent : List Message) (lines : (x : Mes
   -- what a controller holds: the one reading of each run held, votes that were released, the state of its state label
   pub record Fine (c : Controller) : Type 0 where
     pub reads : (i : ℕ) → i < 16 → in_mask c.held i ≡ true → get_or c.readings i 0 ≡ meters c.label i
-    pub votes : (j : ℕ) (d : Digest) → ballot_at c j ≡ Cast d → Released sent j c.label d
+    pub votes : (j : ℕ) (d : Digest) → ballot_at c j ≡ Some d → Released sent j c.label d
     pub state : Can c.state c.estimates
 
   -- what a message says: R the readings of its label, U the state of its state label, S what it must be
@@ -97,7 +97,7 @@ module _ (s : Numbers) (meters : Meters) (sent : List Message) (lines : (x : Mes
         from (by_reading raw q g) = g ∙ h.reading n.label i raw q
         from (by_reply sender mask q m g) = g ∙ h.readings sender n.label mask q i k m
 
-    votes_on : (j : ℕ) (d : Digest) → ballot_at n j ≡ Cast d → Released sent j n.label d
+    votes_on : (j : ℕ) (d : Digest) → ballot_at n j ≡ Some d → Released sent j n.label d
     votes_on j d e = from (votes_from s c a j d e)
       where
         from : VoteFrom c a (stepped s c a) j d → Released sent j n.label d
@@ -115,7 +115,7 @@ module _ (s : Numbers) (meters : Meters) (sent : List Message) (lines : (x : Mes
       settled_wins : WonBy s sent c.label d
       settled_wins =
           decided_wins s sent lines unique c.label (seated c.votes t.seat t.digest) d
-          (λ j e q. subst (λ (k : Controller). ballot_at k j ≡ Cast e → Released sent j k.label e) t.next (votes_on j e) q) t.chose
+          (λ j e q. subst (λ (k : Controller). ballot_at k j ≡ Some e → Released sent j k.label e) t.next (votes_on j e) q) t.chose
 
       settled_base : Can d.state c.estimates
       settled_base = canon_as (sym (chosen_state c d t.here)) refl f.state
@@ -252,7 +252,6 @@ module _ (s : Numbers) (meters : Meters) (sent : List Message) (lines : (x : Mes
 
   -- a start
   fine_risen : (h : Head) (n : Controller) → rising s h ≡ some n → Fine n
-  unfolding started
   fine_risen h n e = let z = risen_by s h n e in subst Fine (sym z.is) (fine_start z.own z.low)
 
   sound_handed : (w : World) → Sound w → (i : ℕ) (a : Message) → Enough meters w i a → (u : Option Controller) → w.up i ≡ u → Within (handed s w i a u) → Sound (handed s w i a u)

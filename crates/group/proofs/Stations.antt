@@ -1,4 +1,5 @@
 -- DEMAND 3 OF STATIONS: a run of stations is a run over lines. Assumes nothing beyond the premises.
+use Rattle.std.specs.Prelude.{Err, Ok}
 use Prim.Native.Nat.{ℕ}
 use mathlib.Core.Path.{◌≡◌, refl, sym, ap, subst, ◌∙◌}
 use mathlib.Core.Bool.{true}
@@ -8,8 +9,7 @@ use lib.Dec.{eqb, ltb}
 use Rattle.units.specs.declared.labels.RoundLabel.{RoundLabel}
 use Rattle.units.specs.declared.refusal.Refusal.{Refusal}
 use Rattle.units.specs.declared.refusal.Refusal.TheVariants.{Closed}
-use Rattle.units.specs.declared.refusal.Verdict.{Verdict}
-use Rattle.units.specs.declared.refusal.Verdict.TheVariants.{Taken, Refused as Denied}
+use Rattle.units.specs.Refusal.{Verdict}
 use Rattle.units.specs.declared.settings.Group.{Group}
 use Rattle.units.specs.declared.settings.Numbers.{Numbers}
 use Rattle.units.specs.Labels.{floor_fits}
@@ -62,17 +62,17 @@ sure_of i c ln = confirming i (spoken_in c ln).head (read_line (group_in c) ln).
 data Way (c : Core) (ln : List ℕ) : Type 0 where
   refuses : (why : Refusal) → turn c ln ≡ refusing c why → ((i : ℕ) → sure_of i c ln ≡ []) → ((w : Wire) (i : ℕ) → w.up i ≡ controller_in (some c) → afterwards (numbers_in c) w (hand i ln) ≡ w)
       → Way c ln
-  rises : (own : ℕ) (floor : RoundLabel) → c.stage ≡ Waiting → (read_line (group_in c) ln).verdict ≡ Taken → (spoken_in c ln).head ≡ Start own floor → Way c ln
-  steps : c.stage ≡ Running → (read_line (group_in c) ln).verdict ≡ Taken → Way c ln
+  rises : (own : ℕ) (floor : RoundLabel) → c.stage ≡ Waiting → (read_line (group_in c) ln).verdict ≡ Ok tt → (spoken_in c ln).head ≡ Start own floor → Way c ln
+  steps : c.stage ≡ Running → (read_line (group_in c) ln).verdict ≡ Ok tt → Way c ln
 
 unsure : (i : ℕ) (h : Head) (v : Verdict) (stage : Stage) → stage ≡ Waiting → confirming i h v stage ≡ []
 unsure i h v stage e = rw e
 
-hears_as : (s : Numbers) (w : Wire) (i : ℕ) (a : Message) (v : Verdict) (u : Option Controller) → v ≡ Taken → w.up i ≡ u → hears-line s w i a v ≡ takes s w i a u
+hears_as : (s : Numbers) (w : Wire) (i : ℕ) (a : Message) (v : Verdict) (u : Option Controller) → v ≡ Ok tt → w.up i ≡ u → hears-line s w i a v ≡ takes s w i a u
 hears_as s w i a v u e q = rw (e, q)
 
 -- a message that is not B, to a number whose program waits for one
-unread : (s : Numbers) (w : Wire) (i : ℕ) (a : Message) (v : Verdict) → v ≡ Taken → w.up i ≡ none → rising s a.head ≡ none → hears-line s w i a v ≡ w
+unread : (s : Numbers) (w : Wire) (i : ℕ) (a : Message) (v : Verdict) → v ≡ Ok tt → w.up i ≡ none → rising s a.head ≡ none → hears-line s w i a v ≡ w
 unread s w i a v e n r =
     hears_as s w i a v none e n
     ∙ (λ k. record { up = λ j. (ap (λ (x : Option Controller). put w.up i x j) (r ∙ sym n) ∙ put_same w.up i j) k; sent = w.sent; stored = w.stored; confirmed = w.confirmed })
@@ -80,15 +80,15 @@ unread s w i a v e n r =
 way : (c : Core) (ln : List ℕ) (stage : Stage) → c.stage ≡ stage → Past stage → (v : Verdict) → (read_line (group_in c) ln).verdict ≡ v → Way c ln
 unfolding turn_by hears
 way c ln AtSettings e p v ev = absurd p
-way c ln Waiting e p Taken ev =
+way c ln Waiting e p (Ok tt) ev =
     by_kind (λ (k : Head). (spoken_in c ln).head ≡ k → Way c ln) (λ v q. rises v.0 v.1 e ev q)
     (λ k n q. refuses Closed (waits_closed c ln e ev (ap as_start q ∙ n)) (λ i. unsure i (spoken_in c ln).head (read_line (group_in c) ln).verdict c.stage e)
     (λ w i u. unread (numbers_in c) w i (spoken_in c ln) _ ev (u ∙ ap (controller_at c) e) (ap (rising (numbers_in c)) q ∙ rw n))) (start_seen (spoken_in c ln).head) refl
-way c ln Waiting e p (Denied why) ev =
+way c ln Waiting e p (Err why) ev =
     refuses why (rw (e, ev)) (λ i. unsure i (spoken_in c ln).head (read_line (group_in c) ln).verdict c.stage e)
     (λ w i u. ap (hears-line (numbers_in c) w i (spoken_in c ln)) ev)
-way c ln Running e p Taken ev = steps e ev
-way c ln Running e p (Denied why) ev =
+way c ln Running e p (Ok tt) ev = steps e ev
+way c ln Running e p (Err why) ev =
     refuses why (rw (e, ev))
     (λ i. ap (confirming i (spoken_in c ln).head (read_line (group_in c) ln).verdict) e ∙ ap (λ (x : Verdict). confirming i (spoken_in c ln).head x Running) ev)
     (λ w i u. ap (hears-line (numbers_in c) w i (spoken_in c ln)) ev)

@@ -1,4 +1,5 @@
 -- THE LINES OF WHAT A PROGRAM WRITES: each text is whole lines, X is read by nobody, and what is read is what a step sent. Assumes nothing.
+use Rattle.std.specs.Prelude.{Some, Err, None, Ok}
 use Prim.Native.Nat.{ℕ}
 use mathlib.Core.Path.{◌≡◌, refl, sym, ap, subst, ◌∙◌}
 use mathlib.Core.List.Memᴰ
@@ -7,8 +8,7 @@ use mathlib.Core.Logic.{inl, inr}
 use lib.ListN.{get_or}
 use Rattle.units.specs.declared.refusal.Refusal.{Refusal}
 use Rattle.units.specs.declared.refusal.Refusal.TheVariants.{Closed}
-use Rattle.units.specs.declared.refusal.Verdict.{Verdict}
-use Rattle.units.specs.declared.refusal.Verdict.TheVariants.{Taken, Refused as Denied}
+use Rattle.units.specs.Refusal.{Verdict}
 use Rattle.units.specs.declared.settings.Group.{Group}
 use Rattle.units.specs.declared.settings.Numbers.{Numbers}
 use Rattle.units.specs.Pick.{pick}
@@ -19,7 +19,6 @@ use Rattle.message.specs.declared.head.Head.TheVariants.{Refused}
 use Rattle.message.specs.declared.value.Message.{Message}
 use Rattle.message.specs.Message.{plain}
 use Rattle.message.proofs.Views.{start_seen, by_kind}
-use Rattle.lines.specs.declared.kind.Found.TheVariants.{Known}
 use Rattle.lines.specs.declared.read.Line.{Line}
 use Rattle.lines.specs.declared.settle.Standing.{Standing}
 use Rattle.lines.specs.declared.settle.Standing.TheVariants.{More, Whole as AllSettings, Refused as NoSettings}
@@ -30,8 +29,7 @@ use Rattle.lines.specs.Values.{kind_is, numbers_of}
 use Rattle.lines.specs.Writing.{line_of, spell_line, refusal_line}
 use Rattle.lines.proofs.RoundTrip.{line_feed_lem, refusal_is}
 use Rattle.lines.proofs.Wire.{taken, text_of, line_accepted}
-use Rattle.plan.specs.declared.planned.Sent.{Sent}
-use Rattle.plan.specs.declared.planned.Sent.TheVariants.{Nothing, One}
+use Rattle.plan.specs.Plan.{Sent}
 use Rattle.controller.specs.declared.state.Controller.{Controller}
 use Rattle.controller.specs.declared.step.Answer.{Answer}
 use Rattle.controller.specs.Sent.{sent_message}
@@ -52,14 +50,14 @@ use Rattle.group.specs.Stations.{puts, kept_if, spoken}
 first_letter : (l k : List ℕ) → l ≡ k → get_or l 0 0 ≡ get_or k 0 0
 first_letter l k e = ap (λ (x : List ℕ). get_or x 0 0) e
 
-pub x_refused : (s : Group) (why : Refusal) → (read_line s (refusal_line why)).verdict ≡ Taken → ⊥
+pub x_refused : (s : Group) (why : Refusal) → (read_line s (refusal_line why)).verdict ≡ Ok tt → ⊥
 unfolding refusal_line line_of kind_of pick
 x_refused s why e =
     let a = line_accepted s (refusal_line why) (read_line s (refusal_line why)).message (whole (read_line s (refusal_line why)) e) in
     let p : 88 ≡ letter_of a.kind = first_letter _ _ a.spelt in
-    let q : kind_of 88 ≡ Known a.kind = ap kind_of p ∙ a.readable in absurd_by (cc)
+    let q : kind_of 88 ≡ Some a.kind = ap kind_of p ∙ a.readable in absurd_by (cc)
   where
-    whole : (l : Line) → l.verdict ≡ Taken → l ≡ taken l.message
+    whole : (l : Line) → l.verdict ≡ Ok tt → l ≡ taken l.message
     whole l d = rw (← d)
 
 -- ---- the lines of a text
@@ -75,20 +73,20 @@ refusal_first s why =
     ap lines_of (refusal_is s why ∙ sym (append-nil (spell_line s x))) ∙ line_first s x [] ∙ ap (λ (l : List (List ℕ)). spell_line s x ∷ l) lines_none ∙ ap (λ (l : List ℕ). l ∷ []) (sym (refusal_is s why))
 
 module _ (s : Numbers) where
-  kept_none : (v : Verdict) (l : List ℕ) (ls : List (List ℕ)) → (v ≡ Taken → ⊥) → kept_if v l ls ≡ ls
-  kept_none Taken l ls n = absurd (n refl)
-  kept_none (Denied why) l ls n = refl
+  kept_none : (v : Verdict) (l : List ℕ) (ls : List (List ℕ)) → (v ≡ Ok tt → ⊥) → kept_if v l ls ≡ ls
+  kept_none (Ok tt) l ls n = absurd (n refl)
+  kept_none (Err why) l ls n = refl
 
-  kept_first : (v : Verdict) (l : List ℕ) (ls : List (List ℕ)) (x : List ℕ) → v ≡ Taken → x ≡ l → Memᴰ x (kept_if v l ls)
-  kept_first Taken l ls x t e = Memᴰ.head e
-  kept_first (Denied why) l ls x t e = absurd_by (cc)
+  kept_first : (v : Verdict) (l : List ℕ) (ls : List (List ℕ)) (x : List ℕ) → v ≡ Ok tt → x ≡ l → Memᴰ x (kept_if v l ls)
+  kept_first (Ok tt) l ls x t e = Memᴰ.head e
+  kept_first (Err why) l ls x t e = absurd_by (cc)
 
   kept_rest : (v : Verdict) (l : List ℕ) (ls : List (List ℕ)) (x : List ℕ) → Memᴰ x ls → Memᴰ x (kept_if v l ls)
-  kept_rest Taken l ls x m = Memᴰ.tail m
-  kept_rest (Denied why) l ls x m = m
+  kept_rest (Ok tt) l ls x m = Memᴰ.tail m
+  kept_rest (Err why) l ls x m = m
 
   -- a written line that is read is among the spoken
-  pub in_spoken : (sent : List (List ℕ)) (x : List ℕ) → Memᴰ x sent → (read_line s.group x).verdict ≡ Taken → Memᴰ x (spoken s sent)
+  pub in_spoken : (sent : List (List ℕ)) (x : List ℕ) → Memᴰ x sent → (read_line s.group x).verdict ≡ Ok tt → Memᴰ x (spoken s sent)
   unfolding spoken
   in_spoken [] x m t = absurd (Memᴰ.not-nil m)
   in_spoken (l ∷ sent) x m t =
@@ -107,23 +105,23 @@ module _ (s : Numbers) where
 
   spoken_verdict : (v : Verdict) (old : List (List ℕ)) → spoken s (puts (lines_of (verdict_text v)) old) ≡ spoken s old
   unfolding verdict_text puts
-  spoken_verdict Taken old = rw lines_none
-  spoken_verdict (Denied why) old = spoken_x why old
+  spoken_verdict (Ok tt) old = rw lines_none
+  spoken_verdict (Err why) old = spoken_x why old
 
   puts_sent : (n : Controller) (t : Sent) (rest : List ℕ) (old : List (List ℕ)) → puts (lines_of (sent_text s n t ++ rest)) old ≡ puts (lines_of rest) (spelling s n t old)
   unfolding sent_text puts
-  puts_sent n Nothing rest old = refl
-  puts_sent n (One head) rest old = rw (line_first s.group (sent_message s n head) rest)
+  puts_sent n None rest old = refl
+  puts_sent n (Some head) rest old = rw (line_first s.group (sent_message s n head) rest)
 
   puts_answer : (r : Answer) (old : List (List ℕ)) → puts (lines_of (answer_text s r)) old ≡ puts (lines_of (verdict_text r.verdict)) (spelled_by s r old)
   unfolding answer_text
   puts_answer r old = puts_sent r.next r.first _ old ∙ puts_sent r.next r.second _ (spelling s r.next r.first old)
 
-  spoken_spelled : (n : Controller) (t : Sent) (old : List (List ℕ)) → ((head : Head) → t ≡ One head → (read_line s.group (spell_line s.group (sent_message s n head))).verdict ≡ Taken)
+  spoken_spelled : (n : Controller) (t : Sent) (old : List (List ℕ)) → ((head : Head) → t ≡ Some head → (read_line s.group (spell_line s.group (sent_message s n head))).verdict ≡ Ok tt)
       → spoken s (spelling s n t old) ≡ spelling s n t (spoken s old)
   unfolding spoken
-  spoken_spelled n Nothing old f = refl
-  spoken_spelled n (One head) old f = rw (f head refl)
+  spoken_spelled n None old f = refl
+  spoken_spelled n (Some head) old f = rw (f head refl)
 
   -- what a step's lines are on the wire
   pub spoken_step : (c : Controller) (a : Message) (old : List (List ℕ)) → spoken s (puts (lines_of (answer_text s (stepped s c a))) old) ≡ spelled_by s (stepped s c a) (spoken s old)
@@ -157,13 +155,13 @@ whole_refusal s why = subst Whole (sym (refusal_is s why)) (whole_line s (plain 
 
 whole_sent : (s : Numbers) (n : Controller) (t : Sent) → Whole (sent_text s n t)
 unfolding sent_text
-whole_sent s n Nothing = whole_none
-whole_sent s n (One head) = whole_line s.group (sent_message s n head)
+whole_sent s n None = whole_none
+whole_sent s n (Some head) = whole_line s.group (sent_message s n head)
 
 whole_verdict : (s : Group) (v : Verdict) → Whole (verdict_text v)
 unfolding verdict_text
-whole_verdict s Taken = whole_none
-whole_verdict s (Denied why) = whole_refusal s why
+whole_verdict s (Ok tt) = whole_none
+whole_verdict s (Err why) = whole_refusal s why
 
 -- ---- the text of a turn: nothing, an X, or an answer of a running controller
 pub data Text (c : Core) : List ℕ → Type 0 where
@@ -184,8 +182,8 @@ module _ (c : Core) where
 
   hears_text : (go : Message → Turn) (a : Message) (v : Verdict) → Text c (go a).text → Text c (hears go c a v).text
   unfolding hears
-  hears_text go a Taken t = t
-  hears_text go a (Denied why) t = denial why
+  hears_text go a (Ok tt) t = t
+  hears_text go a (Err why) t = denial why
 
   text_at : (line : List ℕ) (stage : Stage) → c.stage ≡ stage → Text c (turn_by stepping c line stage).text
   unfolding turn_by

@@ -1,4 +1,5 @@
 -- DEMAND 3, proved: first from what is enough, then from the premises as they are worded. Assumes nothing beyond the premises.
+use Rattle.std.specs.Prelude.{Ok, Some}
 use Prim.Native.Nat.{ℕ, ◌≤◌}
 use native.Mathlib.Omega.{arith}
 use mathlib.Core.Path.{◌≡◌, refl, sym, ap, subst, ◌∙◌}
@@ -15,7 +16,6 @@ use Rattle.units.specs.Labels.{round_fits}
 use Rattle.units.specs.Settings.{group_fits}
 use Rattle.units.proofs.Every.{and_left, and_right}
 use Rattle.vote.specs.declared.digest.Digest.{Digest}
-use Rattle.vote.specs.declared.judge.Poll.TheVariants.{Won}
 use Rattle.vote.specs.Vote.{seats_fit, votes_fit}
 use Rattle.vote.proofs.Answer.{one_winner}
 use Rattle.filter.specs.declared.compute.Computed.{Computed}
@@ -30,15 +30,16 @@ use Rattle.group.proofs.Later.{continued, stays_sent}
 use Rattle.group.proofs.Once.{once}
 use Rattle.group.proofs.Sound.{Sound, sound}
 use Rattle.group.proofs.Weaker.{weaker, weaker_on}
+use Rattle.vote.specs.Digest.{Poll}
 
 -- ---- the state of a label is one
 module _ (s : Numbers) (meters : Meters) (sent : List Message) where
-  same_won : {d e : Digest} → Won d ≡ Won e → d ≡ e
+  same_won : {d e : Digest} → ◌≡◌ {A = Poll} (Ok (Some d)) (Ok (Some e)) → d ≡ e
   same_won q = cc
 
   -- equal labels have one winner
   same_winner : (l k : RoundLabel) (d e : Digest) → l ≡ k → WonBy s sent l d → WonBy s sent k e → d ≡ e
-  same_winner l k d e p a b = same_won (one_winner (released s sent k) (Won d) (Won e) (subst (λ (x : RoundLabel). WonBy s sent x d) p a) b)
+  same_winner l k d e p a b = same_won (one_winner (released s sent k) (Ok (Some d)) (Ok (Some e)) (subst (λ (x : RoundLabel). WonBy s sent x d) p a) b)
 
   -- a label that has a winner is not 0
   won_round : (label : RoundLabel) (d : Digest) → WonBy s sent label d → 1 ≤ label.0

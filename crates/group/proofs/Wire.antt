@@ -1,12 +1,12 @@
 -- DEMAND 3 ON THE WIRE: a run over lines is a run over messages, since what is written is read back as it was. Assumes nothing beyond the premises.
+use Rattle.std.specs.Prelude.{Err, None, Ok, Some}
 use Prim.Native.Nat.{ℕ}
 use mathlib.Core.Path.{◌≡◌, refl, sym, ap, subst, ◌∙◌}
 use mathlib.Core.List.Memᴰ
 use mathlib.Core.List.{List, [], ◌∷◌, map, Memᴰ}
 use mathlib.Core.Option.{Option, none, some}
 use Rattle.units.specs.declared.labels.RoundLabel.{RoundLabel}
-use Rattle.units.specs.declared.refusal.Verdict.{Verdict}
-use Rattle.units.specs.declared.refusal.Verdict.TheVariants.{Taken, Refused as Denied}
+use Rattle.units.specs.Refusal.{Verdict}
 use Rattle.units.specs.declared.settings.Numbers.{Numbers}
 use Rattle.units.proofs.Every.{absurd_by}
 use Rattle.vote.specs.declared.digest.Digest.{Digest}
@@ -20,8 +20,7 @@ use Rattle.lines.specs.Writing.{spell_line}
 use Rattle.lines.proofs.RoundTrip.{read_write}
 use Rattle.lines.proofs.Saying.{not_x_lem}
 use Rattle.lines.proofs.Wire.{taken}
-use Rattle.plan.specs.declared.planned.Sent.{Sent}
-use Rattle.plan.specs.declared.planned.Sent.TheVariants.{Nothing, One}
+use Rattle.plan.specs.Plan.{Sent}
 use Rattle.controller.specs.declared.state.Controller.{Controller}
 use Rattle.controller.specs.declared.step.Answer.{Answer}
 use Rattle.controller.specs.Sent.{with_targets, sent_message}
@@ -76,8 +75,8 @@ module _ (s : Numbers) (meters : Meters) where
   wire_of w = record { up = w.up; sent = map (spell_line s.group) w.sent; stored = w.stored; confirmed = w.confirmed }
 
   spelled_one : (c : Controller) (t : Sent) (old : List Message) → spelling s c t (map (spell_line s.group) old) ≡ map (spell_line s.group) (sending s c t old)
-  spelled_one c Nothing old = refl
-  spelled_one c (One head) old = refl
+  spelled_one c None old = refl
+  spelled_one c (Some head) old = refl
 
   spelled : (r : Answer) (old : List Message) → spelled_by s r (map (spell_line s.group) old) ≡ map (spell_line s.group) (sent_by s r old)
   spelled r old = ap (spelling s r.next r.second) (spelled_one r.next r.first old) ∙ spelled_one r.next r.second (sending s r.next r.first old)
@@ -110,8 +109,8 @@ module _ (s : Numbers) (meters : Meters) where
 
   heard : (w : World) → Run s (Kept meters) w → (i : ℕ) (line : List ℕ) → KeptLine s meters (wire_of w) i line → (v : Verdict) → (read_line s.group line).verdict ≡ v
       → Led w (hears s (wire_of w) i (read_as s line) v)
-  heard w run i line k Taken e = (after s w (hand i (read_as s line)), next here (hand i (read_as s line)) (kept run i line (k e)), takes_as w i (read_as s line) (w.up i))
-  heard w run i line k (Denied why) e = (w, here, refl)
+  heard w run i line k (Ok tt) e = (after s w (hand i (read_as s line)), next here (hand i (read_as s line)) (kept run i line (k e)), takes_as w i (read_as s line) (w.up i))
+  heard w run i line k (Err why) e = (w, here, refl)
 
   happens : (w : World) → Run s (Kept meters) w → (e : EventOf (List ℕ)) → On (KeptLine s meters) (wire_of w) e → Led w (afterwards s (wire_of w) e)
   happens w run (hand i line) k = heard w run i line k (read_line s.group line).verdict refl

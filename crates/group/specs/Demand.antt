@@ -1,5 +1,5 @@
 -- DEMAND 3: the votes released for a label, the one state of a label, and what every S must be.
-use Rattle.std.specs.Prelude.{ℕ, ◌≡◌, true, ◌&&◌, eqb, Float}
+use Rattle.std.specs.Prelude.{ℕ, ◌≡◌, true, ◌&&◌, eqb, Float, None, Some}
 use mathlib.Core.List.{List, [], ◌∷◌, Memᴰ}
 use Rattle.units.specs.declared.estimate.Estimate.{Estimate}
 use Rattle.units.specs.declared.labels.RoundLabel.{RoundLabel}
@@ -10,8 +10,7 @@ use Rattle.units.specs.Limits.{controllers_top, runs_top}
 use Rattle.units.specs.Pick.{pick}
 use Rattle.units.specs.Tab.{tab}
 use Rattle.vote.specs.declared.digest.Digest.{Digest}
-use Rattle.vote.specs.declared.votes.Ballot.{Ballot}
-use Rattle.vote.specs.declared.votes.Ballot.TheVariants.{Missing, Cast}
+use Rattle.vote.specs.Digest.{Ballot}
 use Rattle.vote.specs.declared.votes.Votes.{Votes}
 use Rattle.vote.specs.Vote.{Wins, ballots, votes_fit}
 use Rattle.filter.specs.Compute.{computed}
@@ -27,10 +26,10 @@ use Rattle.group.specs.Premises.{Meters, Released}
 
 -- a D of the number j for the label is its vote; any other message leaves what was found before
 abbrev pub vote_if : ℕ → RoundLabel → Ballot → Head → Ballot
-vote_if j label found head = on_vote (λ sender l digest. pick (eqb sender j && eqb l.0 label.0) (Cast digest) found) found head
+vote_if j label found head = on_vote (λ sender l digest. pick (eqb sender j && eqb l.0 label.0) (Some digest) found) found head
 
 unfoldable pub vote_of : List Message → ℕ → RoundLabel → Ballot
-vote_of [] j label = Missing
+vote_of [] j label = None
 vote_of (x ∷ sent) j label = vote_if j label (vote_of sent j label) x.head
 
 -- all of them, each in its seat

@@ -1,10 +1,9 @@
 -- A GROUP OF STATIONS: the world with the station program in a controller's place. What is handed is a whole line, what comes of it is the program's `turn`.
-use Rattle.std.specs.Prelude.{ℕ, ◌≡◌}
+use Rattle.std.specs.Prelude.{ℕ, ◌≡◌, Err, Ok}
 use mathlib.Core.List.{List, [], ◌∷◌, ◌++◌, Memᴰ}
 use Rattle.std.proofs.Math.Option.{Option, none, some}
 use Rattle.units.specs.declared.labels.RoundLabel.{RoundLabel}
-use Rattle.units.specs.declared.refusal.Verdict.{Verdict}
-use Rattle.units.specs.declared.refusal.Verdict.TheVariants.{Taken, Refused as Denied}
+use Rattle.units.specs.Refusal.{Verdict}
 use Rattle.units.specs.declared.settings.Numbers.{Numbers}
 use Rattle.vote.specs.declared.digest.Digest.{Digest}
 use Rattle.message.specs.declared.head.Head.{Head}
@@ -42,8 +41,8 @@ puts (l ∷ ls) before = puts ls (l ∷ before)
 abbrev pub confirming : ℕ → Head → Verdict → Stage → List Mark
 confirming i head v AtSettings = []
 confirming i head v Waiting = []
-confirming i head Taken Running = confirms i head
-confirming i head (Denied why) Running = []
+confirming i head (Ok tt) Running = confirms i head
+confirming i head (Err why) Running = []
 confirming i head v Ended = []
 
 -- a line handed to a number whose program does not run is lost
@@ -78,8 +77,8 @@ controller_in (some c) = controller_at c c.stage
 
 -- the lines that can be read; X is none of them (`x_refused`, proofs/Stations.antt)
 abbrev pub kept_if : Verdict → List ℕ → List (List ℕ) → List (List ℕ)
-kept_if Taken l ls = l ∷ ls
-kept_if (Denied why) l ls = ls
+kept_if (Ok tt) l ls = l ∷ ls
+kept_if (Err why) l ls = ls
 
 unfoldable pub spoken : Numbers → List (List ℕ) → List (List ℕ)
 spoken s [] = []
@@ -108,11 +107,11 @@ OnwardStations s meters w v = OnwardBy turns (KeptGiven s meters) w v
 -- ---- WHAT DEMAND 3 SAYS of what stations write: of every line ever written that is read as an S or a D
 pub record Demand3Stations (s : Numbers) (meters : Meters) (w v : Stations) : Type 0 where
   -- an S is right, by the lines D that are ever written
-  pub right : (x : List ℕ) → Memᴰ x w.sent → (read_line s.group x).verdict ≡ Taken → (i : ℕ) (label : RoundLabel) (digest : Digest) → (read_as s x).head ≡ Setpoints i label digest
+  pub right : (x : List ℕ) → Memᴰ x w.sent → (read_line s.group x).verdict ≡ Ok tt → (i : ℕ) (label : RoundLabel) (digest : Digest) → (read_as s x).head ≡ Setpoints i label digest
       → Right s meters (read_all s (spoken s v.sent)) label digest (read_as s x).targets
   -- another of the same label, written at any time by any station, has the same bytes but for its sender
-  pub same : (x y : List ℕ) → Memᴰ x w.sent → Memᴰ y v.sent → (read_line s.group x).verdict ≡ Taken → (read_line s.group y).verdict ≡ Taken
+  pub same : (x y : List ℕ) → Memᴰ x w.sent → Memᴰ y v.sent → (read_line s.group x).verdict ≡ Ok tt → (read_line s.group y).verdict ≡ Ok tt
       → (i j : ℕ) (label : RoundLabel) (d e : Digest) → (read_as s x).head ≡ Setpoints i label d → (read_as s y).head ≡ Setpoints j label e → y ≡ spell_line s.group (from j label d (read_as s x))
   -- no number ever releases two digests for a label
-  pub one : (x y : List ℕ) → Memᴰ x v.sent → Memᴰ y v.sent → (read_line s.group x).verdict ≡ Taken → (read_line s.group y).verdict ≡ Taken
+  pub one : (x y : List ℕ) → Memᴰ x v.sent → Memᴰ y v.sent → (read_line s.group x).verdict ≡ Ok tt → (read_line s.group y).verdict ≡ Ok tt
       → (i : ℕ) (label : RoundLabel) (d e : Digest) → (read_as s x).head ≡ Vote i label d → (read_as s y).head ≡ Vote i label e → d ≡ e

@@ -1,18 +1,16 @@
 -- THE GROUP ON THE WIRE: the world with lines of bytes for messages. What is handed is read by `read_line`, what is sent is written by `spell_line`.
-use Rattle.std.specs.Prelude.{ℕ, ◌≡◌}
+use Rattle.std.specs.Prelude.{ℕ, ◌≡◌, Err, None, Ok, Some}
 use mathlib.Core.List.{List, ◌∷◌, ◌++◌, map, Memᴰ}
 use Rattle.std.proofs.Math.Option.{Option, none, some}
 use Rattle.units.specs.declared.labels.RoundLabel.{RoundLabel}
-use Rattle.units.specs.declared.refusal.Verdict.{Verdict}
-use Rattle.units.specs.declared.refusal.Verdict.TheVariants.{Taken, Refused as Denied}
+use Rattle.units.specs.Refusal.{Verdict}
 use Rattle.units.specs.declared.settings.Numbers.{Numbers}
 use Rattle.vote.specs.declared.digest.Digest.{Digest}
 use Rattle.message.specs.declared.head.Head.TheVariants.{Vote, Setpoints}
 use Rattle.message.specs.declared.value.Message.{Message}
 use Rattle.lines.specs.Reading.{read_line}
 use Rattle.lines.specs.Writing.{spell_line}
-use Rattle.plan.specs.declared.planned.Sent.{Sent}
-use Rattle.plan.specs.declared.planned.Sent.TheVariants.{Nothing, One}
+use Rattle.plan.specs.Plan.{Sent}
 use Rattle.controller.specs.declared.state.Controller.{Controller}
 use Rattle.controller.specs.declared.step.Answer.{Answer}
 use Rattle.controller.specs.Sent.{sent_message}
@@ -27,8 +25,8 @@ Wire = WorldOf Controller (List ℕ)
 
 -- what a step sends, as lines
 abbrev pub spelling : Numbers → Controller → Sent → List (List ℕ) → List (List ℕ)
-spelling s c Nothing before = before
-spelling s c (One head) before = spell_line s.group (sent_message s c head) ∷ before
+spelling s c None before = before
+spelling s c (Some head) before = spell_line s.group (sent_message s c head) ∷ before
 
 abbrev pub spelled_by : Numbers → Answer → List (List ℕ) → List (List ℕ)
 spelled_by s r before = spelling s r.next r.second (spelling s r.next r.first before)
@@ -41,8 +39,8 @@ takes s w i a (some c) =
 
 -- a line that is refused, by 1 to 6, changes nothing; its X goes to the host
 abbrev pub hears : Numbers → Wire → ℕ → Message → Verdict → Wire
-hears s w i a Taken = takes s w i a (w.up i)
-hears s w i a (Denied why) = w
+hears s w i a (Ok tt) = takes s w i a (w.up i)
+hears s w i a (Err why) = w
 
 -- the message that a line is read as
 abbrev pub read_as : Numbers → List ℕ → Message
@@ -56,7 +54,7 @@ afterwards s = after_by (reads s)
 
 -- THE PREMISES, on the message that a line is read as, and that its bytes were sent. Nothing is asked of a line that is refused: bytes may be damaged in any way that the reader sees
 abbrev pub KeptLine : Numbers → Meters → Wire → ℕ → List ℕ → Type 0
-KeptLine s meters w i line = (read_line s.group line).verdict ≡ Taken → KeptAs meters w i line (read_as s line)
+KeptLine s meters w i line = (read_line s.group line).verdict ≡ Ok tt → KeptAs meters w i line (read_as s line)
 
 abbrev pub OnwardLines : Numbers → Meters → Wire → Wire → Type 0
 OnwardLines s meters w v = OnwardBy (reads s) (KeptLine s meters) w v

@@ -1,17 +1,15 @@
 -- THE WORLD: who stands at each number, everything ever sent, the floors stored and confirmed for each number; what an event makes of it, and what can come of it.
 -- One definition serves messages (this file), lines of bytes (Wire.antt) and station programs (Stations.antt).
-use Rattle.std.specs.Prelude.{ℕ, List, [], ◌∷◌, ◌++◌, eqb}
+use Rattle.std.specs.Prelude.{ℕ, List, [], ◌∷◌, ◌++◌, eqb, Result, Ok, Err, None, Some}
 use Rattle.std.proofs.Math.Option.{Option, none, some}
 use Rattle.units.specs.declared.labels.RoundLabel.{RoundLabel}
-use Rattle.units.specs.declared.refusal.Verdict.{Verdict}
-use Rattle.units.specs.declared.refusal.Verdict.TheVariants.{Taken, Refused as Denied}
+use Rattle.units.specs.declared.refusal.Refusal.{Refusal}
 use Rattle.units.specs.declared.settings.Numbers.{Numbers}
 use Rattle.units.specs.Pick.{pick}
 use Rattle.message.specs.declared.head.Head.{Head}
 use Rattle.message.specs.declared.value.Message.{Message}
 use Rattle.message.specs.View.{on_floor, on_start}
-use Rattle.plan.specs.declared.planned.Sent.{Sent}
-use Rattle.plan.specs.declared.planned.Sent.TheVariants.{Nothing, One}
+use Rattle.plan.specs.Plan.{Sent}
 use Rattle.controller.specs.declared.state.Controller.{Controller}
 use Rattle.controller.specs.declared.step.Answer.{Answer}
 use Rattle.controller.specs.Sent.{sent_message}
@@ -82,8 +80,8 @@ Event = EventOf Message
 
 -- what a step sends, as whole messages, ahead of what was sent before
 abbrev pub sending : Numbers → Controller → Sent → List Message → List Message
-sending s c Nothing before = before
-sending s c (One head) before = sent_message s c head ∷ before
+sending s c None before = before
+sending s c (Some head) before = sent_message s c head ∷ before
 
 abbrev pub sent_by : Numbers → Answer → List Message → List Message
 sent_by s r before = sending s r.next r.second (sending s r.next r.first before)
@@ -97,13 +95,13 @@ abbrev pub after_answer : Numbers → World → ℕ → Head → Answer → Worl
 after_answer s w i head r = record { up = put w.up i (some r.next); sent = sent_by s r w.sent; stored = w.stored; confirmed = confirms i head ++ w.confirmed }
 
 -- a start that is refused leaves the number down
-abbrev pub begun : Controller → Verdict → Option Controller
-begun c Taken = some c
-begun c (Denied why) = none
+abbrev pub begun : Result Controller Refusal → Option Controller
+begun (Ok c) = some c
+begun (Err why) = none
 
 -- what is handed to a number that is down: B starts it, and anything else is lost
 abbrev pub rising : Numbers → Head → Option Controller
-rising s head = on_start (λ own floor. begun (started s own floor).controller (started s own floor).verdict) none head
+rising s head = on_start (λ own floor. begun (started s own floor)) none head
 
 -- to a running controller B is a message as any other, and restarts it
 abbrev pub handed : Numbers → World → ℕ → Message → Option Controller → World

@@ -1,16 +1,13 @@
 -- WHY EACH RULE OF THE STEP IS THERE: wrong rules in its place, with schedules that keep every premise, and two S of one label that differ come of each. They are computed in proofs/Schedules.antt.
-use Rattle.std.specs.Prelude.{ℕ, ◌+◌, ◌*◌, ◌-◌, ◌/◌, ◌%◌, ◌^◌, Bool, true, false, ◌&&◌, ◌||◌, List, [], ◌∷◌, ◌++◌, map, eqb, ltb, replicate}
+use Rattle.std.specs.Prelude.{ℕ, ◌+◌, ◌*◌, ◌-◌, ◌/◌, ◌%◌, ◌^◌, Bool, true, false, ◌&&◌, ◌||◌, List, [], ◌∷◌, ◌++◌, map, eqb, ltb, replicate, Err, None, Ok, Some}
 use Rattle.std.proofs.Math.Option.{Option, none, some}
 use Rattle.std.specs.Int.Count.{ones}
-use Rattle.units.specs.declared.refusal.Verdict.TheVariants.{Taken}
 use Rattle.units.specs.declared.settings.Numbers.{Numbers}
 use Rattle.units.specs.Limits.{controllers_top}
 use Rattle.units.specs.Pick.{pick}
 use Rattle.vote.specs.declared.digest.Digest.{Digest}
-use Rattle.vote.specs.declared.judge.Poll.{Poll}
-use Rattle.vote.specs.declared.judge.Poll.TheVariants.{Nobody, Won, Refused as Denied}
-use Rattle.vote.specs.declared.votes.Ballot.{Ballot}
-use Rattle.vote.specs.declared.votes.Ballot.TheVariants.{Missing, Cast}
+use Rattle.vote.specs.Digest.{Poll}
+use Rattle.vote.specs.Digest.{Ballot}
 use Rattle.vote.specs.declared.votes.Votes.{Votes}
 use Rattle.vote.specs.Decision.{strengths, largest, winning}
 use Rattle.vote.specs.Vote.{count, missing, ballots, nobody}
@@ -22,8 +19,7 @@ use Rattle.message.specs.View.{on_reading, on_update, on_floor, on_issue}
 use Rattle.plan.specs.declared.brief.Phase.{Phase}
 use Rattle.plan.specs.declared.brief.Phase.TheVariants.{Idle, Collecting, Pending, Voting}
 use Rattle.plan.specs.declared.planned.Effect.TheVariants.{Keep}
-use Rattle.plan.specs.declared.planned.Sent.{Sent}
-use Rattle.plan.specs.declared.planned.Sent.TheVariants.{Nothing, One}
+use Rattle.plan.specs.Plan.{Sent}
 use Rattle.plan.specs.Plan.{afterwards}
 use Rattle.plan.specs.Votes.{possessed}
 use Rattle.controller.specs.declared.state.Controller.{Controller}
@@ -64,8 +60,8 @@ is_voting Voting = true
 
 -- a message of the kind goes out
 abbrev pub is_out : (Head → Bool) → Sent → Bool
-is_out is Nothing = false
-is_out is (One head) = is head
+is_out is None = false
+is_out is (Some head) = is head
 
 abbrev pub goes_out : (Head → Bool) → Answer → Bool
 goes_out is r = is_out is r.first || is_out is r.second
@@ -137,14 +133,14 @@ parted_computing =
 abbrev pub issues_for : Numbers → Answer → Digest → Answer
 issues_for s r d =
     let p = afterwards Keep (Setpoints r.next.own r.next.label d) r.first in
-    record { next = issuing s r.next d; first = p.first; second = p.second; verdict = Taken }
+    record { next = issuing s r.next d; first = p.first; second = p.second; verdict = Ok tt }
 
 -- ---- the shortcut: an open vote is issued where fewer votes are missing than its leader has
 unfoldable pub short_of : Numbers → Answer → Votes → Poll → Answer
-short_of s r v (Won d) =
+short_of s r v (Ok (Some d)) =
     pick (is_voting r.next.phase && ltb (missing (ballots v)) (count d (ballots v)) && possessed (brief_of r.next) d) (issues_for s r d) r
-short_of s r v Nobody = r
-short_of s r v (Denied why) = r
+short_of s r v (Ok None) = r
+short_of s r v (Err why) = r
 
 abbrev pub votes_in : Numbers → Controller → Votes
 votes_in s c = record { group = s.group; label = c.label; seats = c.votes }
@@ -180,8 +176,8 @@ fresh i = sends (Setpoints i (round 2) (run0 1)) (0x40F7_E363_C988_2B93 ∷ 0x40
 
 -- ---- a mixed group: 1 goes by the order of before, the number of measurements, then the state label, then the mask
 abbrev pub rank_before : Ballot → ℕ
-rank_before Missing = 0
-rank_before (Cast d) = ones d.mask * 2 ^ 48 + d.state.0 * 2 ^ 16 + d.mask
+rank_before None = 0
+rank_before (Some d) = ones d.mask * 2 ^ 48 + d.state.0 * 2 ^ 16 + d.mask
 
 -- the winner by it
 abbrev pub won_before : List Ballot → Digest

@@ -1,12 +1,10 @@
 -- Numbers added one after the other to those of a line, and how many there can be. Assumes nothing.
-use Prim.Native.Nat.{ℕ, zero, suc, ◌+◌, ◌*◌, ◌≤◌, ◌<◌}
+use Prim.Native.Nat.{ℕ, zero, suc, ◌+◌, ◌*◌, ◌≤◌}
 use mathlib.Core.Path.{◌≡◌, refl, sym, ap, ◌∙◌}
 use mathlib.Core.List.{List, [], ◌∷◌, ◌++◌, append_assoc, append-nil}
-use mathlib.Core.Bool.{Bool, true, false}
 use native.Mathlib.Omega.{arith}
 use native.Mathlib.Numerals.{add-one}
-use lib.ListN.{length, get_or, take, set, length-append}
-use lib.Seq.{sets, sets-eq, length-sets, take_at, take-append-le, length-take-le}
+use lib.ListN.{length, get_or, length-append}
 use Rattle.units.specs.declared.settings.Group.{Group}
 use Rattle.units.specs.Mask.{in_mask}
 use Rattle.units.specs.Pick.{pick}
@@ -15,51 +13,20 @@ use Rattle.message.specs.declared.head.Head.{Head}
 use Rattle.message.specs.declared.head.Head.TheVariants.{Reading, Query, Reply, Advert, Update, Vote, Setpoints, Due, CollectingEnds, VotingEnds, Floor, Start, Refused}
 use Rattle.message.specs.Head.{carried}
 use Rattle.fields.proofs.Cases.{by_test}
-use Rattle.lines.specs.declared.numbers.LineNumbers.{LineNumbers}
 use Rattle.lines.specs.Lists.{joined}
 use Rattle.lines.specs.Values.{head_values, raw_of}
 
--- THE HEAD
-pub numbers_in_lem : {head k : Head} (n : ℕ) {vs : List ℕ} (r : LineNumbers) → head ≡ k → (r.n ≡ n) × (take n r.v ≡ vs) × (length r.v ≡ 34) → vs ≡ head_values k → n ≡ length vs
-    → (r.n ≡ length (head_values head)) × (take r.n r.v ≡ head_values head) × (length r.v ≡ 34)
-numbers_in_lem n r e h w l = rw (e, ← w, h.0) (l, h.1, h.2)
-
-pub four_taken : (n a b c d : ℕ) (rest : List ℕ) → n ≤ 4 → take n (a ∷ b ∷ c ∷ d ∷ rest) ≡ take n (a ∷ b ∷ c ∷ d ∷ [])
-four_taken n a b c d rest h = take-append-le n (a ∷ b ∷ c ∷ d ∷ []) rest h
-
 -- LISTS ADDED
-pub record Adding (f : ℕ → List ℕ) (from : List ℕ) (v : List ℕ) (at i : ℕ) : Type 0 where
-  pub long : length v ≡ 34
-  pub same : take at v ≡ from ++ joined f i
+pub add_start : (f : ℕ → List ℕ) (from : List ℕ) → from ≡ from ++ joined f 0
+unfolding joined
+add_start f from = sym (append-nil from)
 
-module _ (f : ℕ → List ℕ) (from : List ℕ) where
-  pub add_start : (v : List ℕ) (n : ℕ) → length v ≡ 34 → take n v ≡ from → Adding f from v n 0
-  unfolding joined
-  add_start v n l e = record { long = l; same = e ∙ sym (append-nil from) }
+pub add_more : (f : ℕ → List ℕ) (from : List ℕ) (i : ℕ) {now next ys : List ℕ} → now ≡ from ++ joined f i → next ≡ now ++ ys → f i ≡ ys → next ≡ from ++ joined f (i + 1)
+unfolding joined
+add_more f from i e n h = rw (add-one i) (n ∙ rw (e, ← h) (append_assoc from (joined f i) (f i)))
 
-  module _ (v : List ℕ) (at i : ℕ) (w : Adding f from v at i) where
-    add_none : f i ≡ [] → Adding f from v at (i + 1)
-    unfolding joined
-    add_none e = record { long = w.long; same = rw (add-one i, e, append-nil (joined f i)) w.same }
-
-    add_list : (ys : List ℕ) → at + length ys ≤ 34 → f i ≡ ys → Adding f from (sets v at ys) (at + length ys) (i + 1)
-    unfolding joined
-    add_list ys h e =
-        let l = w.long in
-        let n : length (take at v ++ ys) ≡ at + length ys = length-append (take at v) ys ∙ rw (length-take-le at v (omega arith)) in
-        record {
-          long = length-sets v at ys ∙ l;
-          same = ap (take (at + length ys)) (sets-eq ys v at (omega arith)) ∙ take_at (take at v ++ ys) _ (at + length ys) n ∙ rw (w.same, add-one i, e) (append_assoc from (joined f i) ys);
-        }
-
-    pub add_value : (y : ℕ) → at < 34 → f i ≡ y ∷ [] → Adding f from (set v at y) (at + 1) (i + 1)
-    add_value y h e = add_list (y ∷ []) (omega arith) e
-
-    pub add_pair : (y z : ℕ) → at + 1 < 34 → f i ≡ y ∷ z ∷ [] → Adding f from (set (set v at y) (at + 1) z) (at + 2) (i + 1)
-    add_pair y z h e = rw (add-one at) (add_list (y ∷ z ∷ []) (omega arith) e)
-
-    add_count : at ≤ 34 → at ≡ length (from ++ joined f i)
-    add_count h = sym (length-take-le at v (let l = w.long in omega arith)) ∙ ap length w.same
+pub add_count : (f : ℕ → List ℕ) (from : List ℕ) (i : ℕ) {now : List ℕ} → now ≡ from ++ joined f i → length now ≡ length from + length (joined f i)
+add_count f from i e = ap length e ∙ length-append from (joined f i)
 
 -- READINGS
 pub no_raws : (rs : List ℕ) (n : ℕ) → joined (raw_of 0 rs) n ≡ []
@@ -67,7 +34,7 @@ unfolding joined pick
 no_raws rs zero = refl
 no_raws rs (suc n) = rw (no_raws rs n, no_run n)
 
-raws_short : (mask : ℕ) (rs : List ℕ) (n : ℕ) → length (joined (raw_of mask rs) n) ≤ n
+pub raws_short : (mask : ℕ) (rs : List ℕ) (n : ℕ) → length (joined (raw_of mask rs) n) ≤ n
 unfolding joined pick
 raws_short mask rs zero = omega arith
 raws_short mask rs (suc n) =
@@ -105,21 +72,3 @@ roomy s (VotingEnds label) rs l = record { head = omega arith; all = roomy_none 
 roomy s (Floor label) rs l = record { head = omega arith; all = roomy_none (label.0 ∷ []) rs 0 0 (omega arith); runs = omega arith; shares = omega arith }
 roomy s (Start own floor) rs l = record { head = omega arith; all = roomy_none (own ∷ floor.0 ∷ []) rs 0 0 (omega arith); runs = omega arith; shares = omega arith }
 roomy s (Refused number) rs l = record { head = omega arith; all = roomy_none (number ∷ []) rs 0 0 (omega arith); runs = omega arith; shares = omega arith }
-
--- `with_readings`
-module _ (mask : ℕ) (rs from v : List ℕ) (at i : ℕ) (w : Adding (raw_of mask rs) from v at i) (b : Bool) (be : b ≡ in_mask mask i) (v' : List ℕ) (at' : ℕ) where
-  pub readings_here : (y : ℕ) → b ≡ true → at < 34 → y ≡ get_or rs i 0 → v' ≡ set v at y → at' ≡ at + 1 → Adding (raw_of mask rs) from v' at' (i + 1)
-  unfolding pick
-  readings_here y t h ye ve ae = rw (ve, ae) (add_value (raw_of mask rs) from v at i w y h (rw (← be, t, ye)))
-
-  pub readings_not : b ≡ false → v' ≡ v → at' ≡ at → Adding (raw_of mask rs) from v' at' (i + 1)
-  unfolding pick
-  readings_not t ve ae = rw (ve, ae) (add_none (raw_of mask rs) from v at i w (rw (← be, t)))
-
-pub readings_none : (mask n : ℕ) (rs v : List ℕ) → mask ≡ 0 → n ≤ 4 → length v ≡ 34
-    → (n ≡ length (take n v ++ joined (raw_of mask rs) 16)) × (take n v ≡ take n v ++ joined (raw_of mask rs) 16) × (length v ≡ 34)
-readings_none mask n rs v e h l = rw (e, no_raws rs 16, append-nil (take n v)) (sym (length-take-le n v (omega arith)), refl, l)
-
-pub readings_all : (mask : ℕ) (rs from v : List ℕ) (at i : ℕ) → Adding (raw_of mask rs) from v at i → at ≤ 34 → i ≡ 16
-    → (at ≡ length (from ++ joined (raw_of mask rs) 16)) × (take at v ≡ from ++ joined (raw_of mask rs) 16) × (length v ≡ 34)
-readings_all mask rs from v at i w h q = rw (← q) (add_count (raw_of mask rs) from v at i w h, w.same, w.long)

@@ -1,4 +1,5 @@
 -- WHAT THE ANSWERS ARE, by number and values: the writer's, X's numbers both ways, and the settings' 15. Assumes nothing.
+use Rattle.std.specs.Prelude.{Some, None, Err}
 use Prim.Native.Nat.{ℕ, ◌+◌, ◌≤◌}
 use native.Mathlib.Omega.{arith}
 use mathlib.Core.Path.{◌≡◌, refl, sym, ap, subst, ◌∙◌}
@@ -7,6 +8,7 @@ use mathlib.Core.List.{List, [], ◌∷◌, append-nil}
 use lib.Dec.{eqb, leb}
 use lib.ListN.{length, get_or}
 use borrow.Author.Tests.{eq-eqb, eqb-true, eqb-false, le-leb, lt-ltb, le-ltb, leb-true}
+use Rattle.std.specs.Prelude.{Result, Ok, Err}
 use Rattle.units.specs.declared.refusal.Refusal.{Refusal}
 use Rattle.units.specs.declared.refusal.Refusal.TheVariants.{Long, Unended, Kind as NoKind, Fields, Form as NoForm, Range as NoRange}
 use Rattle.units.specs.declared.settings.Group.{Group}
@@ -23,21 +25,20 @@ use Rattle.message.specs.declared.value.Message.{Message}
 use Rattle.message.specs.Head.{head_fits, is_plain}
 use Rattle.message.specs.Message.{plain, message_fits}
 use Rattle.message.proofs.Plain.{carries_none, plain_fit}
+use Rattle.fields.specs.declared.field.Fault.{Fault}
 use Rattle.fields.specs.declared.field.Field.{Field}
-use Rattle.fields.specs.declared.field.Field.TheVariants.{Value, Form, Range}
+use Rattle.fields.specs.declared.field.Fault.TheVariants.{Form, Range}
 use Rattle.fields.specs.declared.spelling.Spelling.TheVariants.{Decimal}
 use Rattle.fields.specs.Certificate.{is_certificate}
 use Rattle.fields.specs.Put.{written}
 use Rattle.fields.specs.Text.{line_feed, until, first_field, later_fields, tabbed}
 use Rattle.fields.proofs.Cases.{by_test, by_lt, absurd_by}
-use Rattle.lines.specs.declared.kind.Found.TheVariants.{Known, Unknown}
 use Rattle.lines.specs.declared.kind.Kind.{Kind}
 use Rattle.lines.specs.declared.kind.Kind.TheVariants.{Refused as OfX, Sizes, Filter, Run}
 use Rattle.lines.specs.declared.settle.Standing.{Standing}
 use Rattle.lines.specs.declared.settle.Standing.TheVariants.{More, Whole, Refused}
 use Rattle.lines.specs.declared.settle.Settled.{Settled}
 use Rattle.lines.specs.declared.settle.Settling.{Settling}
-use Rattle.lines.specs.declared.write.Written.TheVariants.{Refused as NotWritten}
 use Rattle.lines.specs.Answers.{WriterSays, x_line, Taking, begun, more, runs_read, Waiting, Fifteen, SettlingSays, goes_on, is_whole, refuses, SettingsRefused}
 use Rattle.lines.specs.Lists.{column}
 use Rattle.lines.specs.Reading.{Got, values, stop, refused_line, read_text, read_line, read_values, read_by, ended_once}
@@ -83,7 +84,7 @@ x_written s n buf g l h = rw (x_fits s n g l h, x_spelled s n) (refl, refl)
 
 -- and 6 for every other number, with nothing touched, whatever stands beside it
 pub x_unwritten : (s : Group) (a : Message) (n : ℕ) (buf : List ℕ) → a.head ≡ X n → (1 ≤ n → n ≤ 16 → ⊥)
-    → (write_answer (message_fits s a) (spell_line s a) buf ≡ NotWritten NoRange) × (write_buffer (message_fits s a) (spell_line s a) buf ≡ buf)
+    → (write_answer (message_fits s a) (spell_line s a) buf ≡ Err NoRange) × (write_buffer (message_fits s a) (spell_line s a) buf ≡ buf)
 unfolding write_answer write_buffer pick head_fits
 x_unwritten s a n buf e h = rw (by_test (message_fits s a) (λ f. absurd (out f)) (λ f. f)) (refl, refl)
   where
@@ -110,14 +111,14 @@ x_unread s line a n e h =
     let m = meaning c.kind s c.numbers c.group c.readable c.fit in
     let k : kind_is a.head ≡ c.kind = ap (λ (x : Message). kind_is x.head) c.message ∙ m.kind in
     let x : OfX ≡ c.kind = ap kind_is (sym h) ∙ k in
-    let r : kind_of (letter_of OfX) ≡ Known OfX = rw (← x) at c.readable in absurd_by (cc)
+    let r : kind_of (letter_of OfX) ≡ Some OfX = rw (← x) at c.readable in absurd_by (cc)
 
 -- "After the settings a line X, G, N or K is 3", and so is a line of any other letter that is no message's
-pub read_kind : (s : Group) (line : List ℕ) (c : ℕ) → group_fits s ≡ true → length line ≤ line_top → ended_once line ≡ true → first_field (until line_feed line) ≡ c ∷ [] → kind_of c ≡ Unknown → read_line s line ≡ refused_line NoKind
+pub read_kind : (s : Group) (line : List ℕ) (c : ℕ) → group_fits s ≡ true → length line ≤ line_top → ended_once line ≡ true → first_field (until line_feed line) ≡ c ∷ [] → kind_of c ≡ None → read_line s line ≡ refused_line NoKind
 unfolding read_line read_text pick
 read_kind s line c g l e f k = rw (g, le-leb (length line) line_top l, e, f, k)
 
-pub only_settings : (kind_of 88 ≡ Unknown) × (kind_of 71 ≡ Unknown) × (kind_of 78 ≡ Unknown) × (kind_of 75 ≡ Unknown)
+pub only_settings : (kind_of 88 ≡ None) × (kind_of 71 ≡ None) × (kind_of 78 ≡ None) × (kind_of 75 ≡ None)
 unfolding kind_of pick
 only_settings = (refl, refl, refl, refl)
 
@@ -134,15 +135,15 @@ module _ (st : Settling) where
   by_values go (values vs) h = took (go vs)
   by_values go (stop why) h = left why h
 
-  by_field : (f : Field) (go : ℕ → Settled) → ((n : ℕ) → Led st (go n)) → Led st (after_field st f go)
-  by_field (Value n next) go h = h n
-  by_field Form go h = left NoForm refl
-  by_field Range go h = left NoRange refl
+  by_field : (f : Result Field Fault) (go : ℕ → Settled) → ((n : ℕ) → Led st (go n)) → Led st (after_field st f go)
+  by_field (Ok f) go h = h f.n
+  by_field (Err Form) go h = left NoForm refl
+  by_field (Err Range) go h = left NoRange refl
 
   by_plain : (kind : Kind) (go : List ℕ → Settings) (text : List ℕ) → Led st (expecting st kind text (settle_plain st kind go (later_fields text)))
   by_plain kind go text = either (Led st) _ (by_values go (read_values kind any_group (later_fields text)) (values_early kind any_group (later_fields text))) (left NoKind refl)
 
-  abbrev run_field : List (List ℕ) → ℕ → ℕ → Field
+  abbrev run_field : List (List ℕ) → ℕ → ℕ → Result Field Fault
   run_field fs i place = read_by (limit_of Run i any_group (turn_of st)) (get_or fs place [])
 
   by_run : (fs : List (List ℕ)) → Led st (settle_run st fs)

@@ -1,14 +1,14 @@
 -- Lists made place by place: their places, and a loop that fills an array with them from the front. Assumes nothing.
-use Prim.Native.Nat.{ℕ, zero, suc, ◌+◌, ◌/◌, ◌%◌, ◌^◌, ◌≤◌, ◌<◌}
-use mathlib.Core.Path.{◌≡◌, refl, sym, ap, ◌∙◌}
-use mathlib.Core.List.{List, [], ◌∷◌}
+use Prim.Native.Nat.{ℕ, zero, suc, ◌+◌, ◌-◌, ◌/◌, ◌%◌, ◌^◌, ◌≤◌, ◌<◌}
+use mathlib.Core.Path.{◌≡◌, refl, sym, ap, subst, ◌∙◌}
+use mathlib.Core.List.{List, [], ◌∷◌, ◌++◌}
 use native.Mathlib.Omega.{arith}
 use native.Mathlib.Nat.{mod-lt}
 use lib.Count.{ones, ones_cat, ones-le}
 use lib.Dec.{eqb, lit<}
-use lib.ListN.{length, get_or, replicate, length-append, length-replicate, get_or-replicate, get_or-append}
+use lib.ListN.{length, get_or, drop, replicate, length-append, length-drop, get_or-eq_default, length-replicate, get_or-replicate, get_or-append}
 use lib.Pow.{mod-pow-add, pow_mono}
-use lib.Seq.{ext_get_or, get_or-append_seam}
+use lib.Seq.{ext_get_or, get_or-append_seam, get_or-append-add, get_or-drop}
 use borrow.Author.Tests.{eqb-true, eqb-false}
 use Rattle.units.specs.Mask.{in_mask}
 use Rattle.units.proofs.Tab.{Filled, fill_none}
@@ -46,10 +46,35 @@ module _ {A : Type 0} (f : ℕ → A) where
   fill_done d rest xs i w h =
       is_column d 16 xs w.0 (λ j l. by_lt j i (λ b. w.1 j b) (λ b. w.2 j b ∙ get_or-replicate 16 j rest d l ∙ sym (h j b l)))
 
+  -- a place that stays as it was
+  pub fill_kept : (d rest : A) (xs : List A) (i : ℕ) → Filling d rest xs i → i < 16 → rest ≡ f i → Filling d rest xs (i + 1)
+  fill_kept d rest xs i w h e = (
+    w.0,
+    λ j k. by_lt j i (λ b. w.1 j b) (λ b. let q : j ≡ i = omega arith in rw q (w.2 i (omega arith) ∙ get_or-replicate 16 i rest d h ∙ e)),
+    λ j k. w.2 j (omega arith),
+  )
+
 pub column_same : {A : Type 0} (f g : ℕ → A) (n : ℕ) → ((i : ℕ) → i < n → f i ≡ g i) → column f n ≡ column g n
 unfolding column
 column_same f g zero h = refl
 column_same f g (suc n) h = rw (column_same f g n (λ i l. h i (omega arith)), h n (omega arith))
+
+-- a list, and 0 at the places after it
+pub column_padded : (cs : List ℕ) → length cs ≤ 16 → cs ++ drop (length cs) (replicate 16 0) ≡ column (λ i. get_or cs i 0) 16
+column_padded cs h =
+    is_column (λ i. get_or cs i 0) 0 16 (cs ++ z) (omega (arith, length-append cs z, length-drop {A = ℕ} (length cs) (replicate 16 0), length-replicate {A = ℕ} 16 0))
+    (λ i l. by_lt i (length cs) (λ b. get_or-append cs z 0 i b) (λ b. let q : length cs + (i - length cs) ≡ i = omega arith in subst P q (past (i - length cs) (omega arith))))
+  where
+    z : List ℕ
+    z = drop (length cs) (replicate 16 0)
+
+    P : ℕ → Type 0
+    P i = get_or (cs ++ z) i 0 ≡ get_or cs i 0
+
+    past : (j : ℕ) → length cs + j < 16 → P (length cs + j)
+    past j l =
+        get_or-append-add cs z j 0 ∙ get_or-drop (length cs) (replicate 16 0) j 0 ∙ get_or-replicate 16 (length cs + j) 0 0 l
+        ∙ sym (get_or-eq_default cs 0 {n = length cs + j} (omega arith))
 
 -- THE BITS OF A MASK
 one_bit : (n : ℕ) → n < 2 → ones n ≡ n

@@ -1,5 +1,5 @@
 -- What the functions need that make a message of a line's numbers. Assumes nothing.
-use Prim.Native.Nat.{ℕ, ◌+◌, ◌*◌, ◌%◌, ◌^◌, ◌≤◌, ◌<◌}
+use Prim.Native.Nat.{ℕ, ◌+◌, ◌*◌, ◌%◌, ◌^◌}
 use mathlib.Core.Path.{◌≡◌, refl, ◌∙◌}
 use mathlib.Core.List.{List}
 use mathlib.Core.Bool.{Bool, true, false, ◌&&◌}
@@ -8,12 +8,12 @@ use lib.Count.{ones}
 use lib.Ieee.{Float}
 use lib.Dec.{eqb}
 use lib.ListN.{get_or}
-use borrow.Author.Tests.{lt-ltb, le-ltb, eqb-true}
+use borrow.Author.Tests.{le-ltb, eqb-true}
 use Rattle.units.specs.declared.estimate.Estimate.{Estimate}
 use Rattle.units.specs.declared.settings.Group.{Group}
 use Rattle.units.specs.Mask.{in_mask}
 use Rattle.units.specs.Pick.{pick}
-use Rattle.floats.specs.Bits.{float_of, nought}
+use Rattle.floats.specs.Bits.{nought}
 use Rattle.floats.specs.Ranges.{blank}
 use Rattle.message.specs.declared.head.Head.{Head}
 use Rattle.message.specs.declared.head.Carried.{Carried}
@@ -24,51 +24,20 @@ use Rattle.units.proofs.Every.{and_three}
 use Rattle.units.proofs.Masks.{no_run}
 use Rattle.lines.specs.declared.kind.Kind.{Kind}
 use Rattle.lines.specs.Lists.{column}
-use Rattle.lines.specs.Table.{runs_of}
-use Rattle.lines.specs.Values.{pick_word, tally, head_of, reading_in, estimate_in, target_in, message_with, message_of}
-use Rattle.lines.proofs.Columns.{column_same, fill_start, fill_done, bits_step, bits_few}
-
-pub head_in : {kind k : Kind} (a b c d : ℕ) {r : Head} → kind ≡ k → r ≡ head_of k a b c d → r ≡ head_of kind a b c d
-head_in a b c d e h = rw e h
+use Rattle.lines.specs.Values.{word, head_of, reading_in, estimate_in, target_in, message_with, message_of}
+use Rattle.lines.proofs.Columns.{column_same, fill_start, fill_done, bits_step}
 
 -- READINGS
 pub no_readings : (mask : ℕ) (v : List ℕ) (j : ℕ) → mask ≡ 0 → reading_in mask v j ≡ 0
 no_readings mask v j e = rw (e, no_run j)
 
-pub at_start : (mask : ℕ) → 3 ≡ 3 + ones (mask % 2 ^ 0)
-at_start mask = let f = bits_few mask 0 in omega arith
+-- one place more: a number that counts is taken and passed
+module _ (mask : ℕ) (v : List ℕ) (i : ℕ) {at : ℕ} (ae : at ≡ 3 + ones (mask % 2 ^ i)) {b : Bool} (be : b ≡ in_mask mask i) where
+  pub raw_here : b ≡ true → (word (get_or v at 0) ≡ reading_in mask v i) × (at + 1 ≡ 3 + ones (mask % 2 ^ (i + 1)))
+  raw_here t = (rw (← be, t, ae), rw (bits_step mask i, ← be, t) (omega arith))
 
-module _ (mask : ℕ) (v out : List ℕ) (at i : ℕ) (b : Bool) (y : ℕ) (ae : at ≡ 3 + ones (mask % 2 ^ i)) (be : b ≡ in_mask mask i) where
-  pub at_few : i ≤ 16 → at ≤ 19
-  at_few h = let f = bits_few mask i in omega arith
-
-  pub raw_made : y ≡ pick_word b (get_or v at 0) → y ≡ reading_in mask v i
-  raw_made e = e ∙ rw (be, ae)
-
-  pub at_more : (n : ℕ) → n ≡ tally b at → n ≡ 3 + ones (mask % 2 ^ (i + 1))
-  at_more n e = rw (bits_step mask i, ← be) (e ∙ go b (ones (mask % 2 ^ i)) at ae)
-    where
-      go : (t : Bool) (m a : ℕ) → a ≡ 3 + m → tally t a ≡ 3 + tally t m
-      go true m a h = omega arith
-      go false m a h = h
-
--- ESTIMATES AND TARGETS
-pub estimate_made : (n runs i : ℕ) (v : List ℕ) (y : Estimate) → runs ≡ runs_of n → i < runs
-    → y ≡ record { x = float_of (get_or v (2 + 2 * i) 0); variance = float_of (get_or v (3 + 2 * i) 0) } → y ≡ estimate_in n v i
-unfolding pick
-estimate_made n runs i v y r h e = let l : i < n = omega arith in rw (lt-ltb i n l) e
-
-pub estimate_left : (n runs i : ℕ) (v : List ℕ) → runs ≡ runs_of n → runs ≤ i → (j : ℕ) → i ≤ j → j < 16 → estimate_in n v j ≡ blank
-unfolding pick
-estimate_left n runs i v r h j a b = let l : n ≤ j = omega arith in rw (le-ltb j n l)
-
-pub target_made : (n runs i : ℕ) (v : List ℕ) (y : Float) → runs ≡ runs_of n → i < runs → y ≡ float_of (get_or v (4 + i) 0) → y ≡ target_in n v i
-unfolding pick
-target_made n runs i v y r h e = let l : i < n = omega arith in rw (lt-ltb i n l) e
-
-pub target_left : (n runs i : ℕ) (v : List ℕ) → runs ≡ runs_of n → runs ≤ i → (j : ℕ) → i ≤ j → j < 16 → target_in n v j ≡ nought
-unfolding pick
-target_left n runs i v r h j a b = let l : n ≤ j = omega arith in rw (le-ltb j n l)
+  pub raw_not : b ≡ false → (0 ≡ reading_in mask v i) × (at ≡ 3 + ones (mask % 2 ^ (i + 1)))
+  raw_not t = (rw (← be, t), rw (bits_step mask i, ← be, t) ae)
 
 -- THE WHOLE
 pub message_made : (s : Group) (head h : Head) (c : Carried) (v readings : List ℕ) (estimates : List Estimate) (targets : List Float)

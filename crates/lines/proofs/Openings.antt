@@ -1,6 +1,7 @@
 -- What the reader needs of a line's first field and of its checks before any field. Assumes nothing.
+use Rattle.std.specs.Prelude.{Option, None, Err, Ok}
 use Prim.Native.Nat.{ℕ, ◌+◌, ◌≤◌, ◌<◌}
-use mathlib.Core.Path.{◌≡◌, refl, sym, ap, ◌∙◌}
+use mathlib.Core.Path.{◌≡◌, refl, sym, ◌∙◌}
 use mathlib.Core.List.{List, [], ◌∷◌}
 use mathlib.Core.Bool.{Bool, true, false, not}
 use native.Mathlib.Omega.{arith}
@@ -9,8 +10,7 @@ use lib.Seq.{get_or-take}
 use borrow.Author.Tests.{eq-eqb, ne_eqb, le-leb, lt-leb, not-true, not-false}
 use Rattle.units.specs.declared.refusal.Refusal.{Refusal}
 use Rattle.units.specs.declared.refusal.Refusal.TheVariants.{Long, Unended, Range as NoRange}
-use Rattle.units.specs.declared.refusal.Verdict.{Verdict}
-use Rattle.units.specs.declared.refusal.Verdict.TheVariants.{Taken, Refused}
+use Rattle.units.specs.Refusal.{Verdict}
 use Rattle.units.specs.declared.settings.Group.{Group}
 use Rattle.units.specs.Pick.{pick}
 use Rattle.units.specs.Settings.{group_fits}
@@ -20,15 +20,12 @@ use Rattle.fields.proofs.Cases.{by_lt, absurd_by}
 use Rattle.fields.proofs.Texts.{first_none, first_some, until_take, fields_count}
 use Rattle.message.specs.declared.value.Message.{Message}
 use Rattle.lines.specs.declared.kind.Kind.{Kind}
-use Rattle.lines.specs.declared.kind.Found.{Found}
-use Rattle.lines.specs.declared.kind.Found.TheVariants.{Known, Unknown}
 use Rattle.lines.specs.declared.read.Line.{Line}
 use Rattle.lines.specs.Table.{kind_of}
 use Rattle.lines.specs.Values.{message_of}
 use Rattle.lines.specs.Reading.{values, stop, kind_in, line_with, read_values, read_known, read_text, read_line, refused_line}
 use Rattle.lines.specs.Walk.{Rest, Filled}
 use Rattle.lines.proofs.Making.{message_same}
-use Rattle.lines.proofs.Wire.{kind_only}
 
 -- THE FIRST FIELD
 pub one_byte : (text : List ℕ) → ends (drop 0 text) ≡ false → ends (drop 1 text) ≡ true → first_field text ≡ get_or text 0 0 ∷ []
@@ -41,30 +38,26 @@ unfolding ends until
 two_bytes [] e f = absurd_by (cc)
 two_bytes (c ∷ cs) e f = rw e (let a = first_some cs f in omega arith)
 
-kind_long : (f : List ℕ) → 1 < length f → Unknown ≡ kind_in f
+kind_long : (f : List ℕ) → 1 < length f → None ≡ kind_in f
 kind_long [] h = absurd (omega arith)
 kind_long (c ∷ []) h = absurd (omega arith)
 kind_long (c ∷ d ∷ f) h = refl
 
 module _ (text : List ℕ) (a : Bool) (ae : a ≡ ends (drop 0 text)) where
-  pub kind_none : a ≡ true → Unknown ≡ kind_in (first_field text)
+  pub kind_none : a ≡ true → None ≡ kind_in (first_field text)
   kind_none t = rw (first_none text (sym ae ∙ t))
 
   module _ (b : Bool) (be : b ≡ ends (drop 1 text)) (t : a ≡ false) where
-    pub kind_one : (r : Found) → b ≡ true → r ≡ kind_of (get_or text 0 0) → r ≡ kind_in (first_field text)
+    pub kind_one : (r : Option Kind) → b ≡ true → r ≡ kind_of (get_or text 0 0) → r ≡ kind_in (first_field text)
     kind_one r u e = rw (one_byte text (sym ae ∙ t) (sym be ∙ u)) e
 
-    pub kind_more : b ≡ false → Unknown ≡ kind_in (first_field text)
+    pub kind_more : b ≡ false → None ≡ kind_in (first_field text)
     kind_more u = kind_long (first_field text) (two_bytes text (sym ae ∙ t) (sym be ∙ u))
 
 pub open_within : (text : List ℕ) (a : Bool) → a ≡ ends (drop 0 text) → a ≡ false → 0 < length text
 unfolding ends
 open_within [] a ae t = absurd_by (cc)
 open_within (c ∷ cs) a ae t = omega arith
-
--- a known kind is one letter
-pub known_short : (f : List ℕ) (r : Found) (k : Kind) → r ≡ kind_in f → r ≡ Known k → length f ≡ 1
-known_short f r k e q = ap length (kind_only f k (sym e ∙ q))
 
 -- NUMBERS NOT READ YET
 pub none_read : Rest (replicate 34 0) 0
@@ -80,17 +73,17 @@ rest_same w n r i =
 
 -- `read_known`
 module _ {k : Kind} {s : Group} {text w : List ℕ} {a : Verdict} (f : Filled k s text w (read_values k s (later_fields text)) a) where
-  pub known_taken : {m : Message} → a ≡ Taken → m ≡ message_of s k w → ◌≡◌ {A = Line} (record { verdict = Taken; message = m }) (line_with s k (read_values k s (later_fields text)))
+  pub known_taken : {m : Message} → a ≡ Ok tt → m ≡ message_of s k w → ◌≡◌ {A = Line} (record { verdict = Ok tt; message = m }) (line_with s k (read_values k s (later_fields text)))
   known_taken e h =
       let n = length (later_fields text) in
       let g : read_values k s (later_fields text) ≡ values (take n w) = sym f.got ∙ rw e in
       rw (g, h, message_same s k w (take n w) (rest_same w n (f.rest e)))
 
-  pub known_refused : {r : Line} {why : Refusal} → a ≡ Refused why → r ≡ refused_line why → r ≡ line_with s k (read_values k s (later_fields text))
+  pub known_refused : {r : Line} {why : Refusal} → a ≡ Err why → r ≡ refused_line why → r ≡ line_with s k (read_values k s (later_fields text))
   known_refused {why = why} e h = let g : read_values k s (later_fields text) ≡ stop why = sym f.got ∙ rw e in rw g h
 
 -- `read_text`
-pub text_found : (s : Group) (text : List ℕ) {found : Found} {r : Line} → found ≡ kind_in (first_field text) → (f : Found) → found ≡ f → r ≡ read_known s (later_fields text) f → r ≡ read_text s text
+pub text_found : (s : Group) (text : List ℕ) {found : Option Kind} {r : Line} → found ≡ kind_in (first_field text) → (f : Option Kind) → found ≡ f → r ≡ read_known s (later_fields text) f → r ≡ read_text s text
 unfolding read_text
 text_found s text fe f e h = rw (← fe, e) h
 

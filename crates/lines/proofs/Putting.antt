@@ -1,4 +1,5 @@
 -- What the functions need that put a line into a buffer. Assumes nothing.
+use Rattle.std.specs.Prelude.{Err, Ok}
 use Prim.Native.Nat.{ℕ, zero, suc, ◌+◌, ◌*◌, ◌≤◌, ◌<◌}
 use mathlib.Core.Path.{◌≡◌, refl, sym, ap, ◌∙◌}
 use mathlib.Core.Bool.{Bool, true, false, not}
@@ -6,8 +7,8 @@ use lib.Dec.{leb}
 use mathlib.Core.List.{List, [], ◌∷◌, ◌++◌, append-nil}
 use native.Mathlib.Omega.{arith}
 use native.Mathlib.Numerals.{add-one}
-use lib.ListN.{length, get_or, take, drop, set, length-append, length-set}
-use lib.Seq.{sets, sets-eq, get_or-take, length-take-le}
+use lib.ListN.{length, get_or, drop, set, length-append, length-set}
+use lib.Seq.{sets, sets-eq}
 use borrow.Author.Tests.{lt-ltb, le-ltb, le-leb, leb-true, leb-false, not-true, not-false}
 use Rattle.units.specs.declared.refusal.Refusal.TheVariants.{Room}
 use Rattle.units.specs.Pick.{pick}
@@ -21,11 +22,9 @@ use Rattle.fields.proofs.Spellings.{longest_short, spelled_short}
 use Rattle.fields.proofs.Texts.{tabbed_append}
 use Rattle.lines.specs.declared.kind.Kind.{Kind}
 use Rattle.lines.specs.declared.table.Quantity.{Quantity}
-use Rattle.lines.specs.declared.write.Written.TheVariants.{Done, Refused}
 use Rattle.lines.specs.Lists.{column}
 use Rattle.lines.specs.Table.{letter_of, quantity_at, spelling_of}
 use Rattle.lines.specs.Writing.{spelled_at, texts_to, line_of, answer_of, buffer_of}
-use Rattle.lines.proofs.Columns.{column_same}
 
 pub written_short : (sp : Spelling) (n : ℕ) → length (written sp n) ≤ 16
 written_short sp n =
@@ -87,47 +86,44 @@ module _ (kind : Kind) (v : List ℕ) where
           (sets_append T (9 ∷ spelled_at kind v k) l 1)
 
 -- THE WHOLE LINE
-texts_taken : (kind : Kind) (v : List ℕ) (n : ℕ) → n ≤ length v → texts_to kind (take n v) (length (take n v)) ≡ texts_to kind v n
-texts_taken kind v n h = rw (length-take-le n v h) (column_same (spelled_at kind (take n v)) (spelled_at kind v) n (λ i l. rw (get_or-take n v i 0 l)))
-
-module _ (kind : Kind) (v : List ℕ) (n : ℕ) (h : n ≤ length v) where
-  line_is : line_of kind (take n v) ≡ letter_of kind ∷ tabbed (texts_to kind v n) ++ (10 ∷ [])
+module _ (kind : Kind) (v : List ℕ) where
+  line_is : line_of kind v ≡ letter_of kind ∷ tabbed (texts_to kind v (length v)) ++ (10 ∷ [])
   unfolding line_of
-  line_is = rw (texts_taken kind v n h)
+  line_is = refl
 
-  line_length : length (line_of kind (take n v)) ≡ 2 + length (tabbed (texts_to kind v n))
-  line_length = rw line_is (let a = length-append (tabbed (texts_to kind v n)) (10 ∷ []) in omega arith)
+  line_length : length (line_of kind v) ≡ 2 + length (tabbed (texts_to kind v (length v)))
+  line_length = rw line_is (let a = length-append (tabbed (texts_to kind v (length v))) (10 ∷ []) in omega arith)
 
-  module _ (len w : ℕ) (b : List ℕ) (le : len ≡ 2 + w) (we : w ≡ length (tabbed (texts_to kind v n))) where
-    len_is : len ≡ length (line_of kind (take n v))
+  module _ (len w : ℕ) (b : List ℕ) (le : len ≡ 2 + w) (we : w ≡ length (tabbed (texts_to kind v (length v)))) where
+    len_is : len ≡ length (line_of kind v)
     len_is = let a = line_length in omega arith
 
-    pub line_room : length b < len → (Refused Room ≡ answer_of (line_of kind (take n v)) b) × (b ≡ buffer_of (line_of kind (take n v)) b)
+    pub line_room : length b < len → (Err Room ≡ answer_of (line_of kind v) b) × (b ≡ buffer_of (line_of kind v) b)
     unfolding pick
-    line_room s = let k : length b < length (line_of kind (take n v)) = let a = len_is in omega arith in rw (lt-ltb (length b) (length (line_of kind (take n v))) k) (refl, refl)
+    line_room s = let k : length b < length (line_of kind v) = let a = len_is in omega arith in rw (lt-ltb (length b) (length (line_of kind v)) k) (refl, refl)
 
     module _ (s : len ≤ length b) where
-      enough : length (line_of kind (take n v)) ≤ length b
+      enough : length (line_of kind v) ≤ length b
       enough = let a = len_is in omega arith
 
-      pub line_answer_lem : Done len ≡ answer_of (line_of kind (take n v)) b
+      pub line_answer_lem : Ok len ≡ answer_of (line_of kind v) b
       unfolding pick
-      line_answer_lem = rw (le-ltb (length b) (length (line_of kind (take n v))) enough) (ap Done len_is)
+      line_answer_lem = rw (le-ltb (length b) (length (line_of kind v)) enough) (ap Ok len_is)
 
-      pub numbers_room : (c : ℕ) → 1 + length (tabbed (texts_to kind v n)) ≤ length (set b 0 c)
+      pub numbers_room : (c : ℕ) → 1 + length (tabbed (texts_to kind v (length v))) ≤ length (set b 0 c)
       numbers_room c = let a = length-set b 0 c in omega arith
 
-      pub line_put : (c e : ℕ) (d : List ℕ) → c ≡ letter_of kind → e ≡ 1 + length (tabbed (texts_to kind v n)) → d ≡ sets (set b 0 c) 1 (tabbed (texts_to kind v n))
-          → set d e 10 ≡ buffer_of (line_of kind (take n v)) b
+      pub line_put : (c e : ℕ) (d : List ℕ) → c ≡ letter_of kind → e ≡ 1 + length (tabbed (texts_to kind v (length v))) → d ≡ sets (set b 0 c) 1 (tabbed (texts_to kind v (length v)))
+          → set d e 10 ≡ buffer_of (line_of kind v) b
       unfolding pick
       line_put c e d ce ee de =
-          let T = tabbed (texts_to kind v n) in
+          let T = tabbed (texts_to kind v (length v)) in
           let k : 0 + length (letter_of kind ∷ T ++ (10 ∷ [])) ≤ length b = let a = ap {B = ℕ} length line_is in let g = enough in omega arith in
-          rw (le-ltb (length b) (length (line_of kind (take n v))) enough, line_is, de, ee, ce)
+          rw (le-ltb (length b) (length (line_of kind v)) enough, line_is, de, ee, ce)
           (sets_append T (10 ∷ []) (set b 0 (letter_of kind)) 1 ∙ sets-eq (letter_of kind ∷ T ++ (10 ∷ [])) b 0 k
           ∙ (let z : 0 + length (letter_of kind ∷ T ++ (10 ∷ [])) ≡ length (letter_of kind ∷ T ++ (10 ∷ [])) = omega arith in ap (λ (m : ℕ). (letter_of kind ∷ T ++ (10 ∷ [])) ++ drop m b) z))
 
-      pub feed_room : (c e : ℕ) (d : List ℕ) → e ≡ 1 + length (tabbed (texts_to kind v n)) → length d ≡ length (set b 0 c) → e < length d
+      pub feed_room : (c e : ℕ) (d : List ℕ) → e ≡ 1 + length (tabbed (texts_to kind v (length v))) → length d ≡ length (set b 0 c) → e < length d
       feed_room c e d ee de = let a = length-set b 0 c in omega arith
 
 -- `is_enough_for`

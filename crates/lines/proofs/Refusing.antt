@@ -1,4 +1,5 @@
 -- WHAT IS REFUSED AHEAD OF A LINE'S FIELDS: over 600 bytes, and without a line feed; and that the reader refuses by 1 to 6 alone. Assumes nothing.
+use Rattle.std.specs.Prelude.{Option, Some, None, Err, Ok}
 use Prim.Native.Nat.{ℕ, ◌+◌, ◌≤◌, ◌<◌}
 use native.Mathlib.Omega.{arith}
 use mathlib.Core.Path.{◌≡◌, refl, sym, ap, subst, ◌∙◌}
@@ -6,23 +7,22 @@ use mathlib.Core.Bool.{Bool, true, false}
 use mathlib.Core.List.{List, [], ◌∷◌, ◌++◌}
 use lib.Dec.{leb}
 use lib.ListN.{length, take, drop}
+use Rattle.std.specs.Prelude.{Result, Ok, Err}
 use Rattle.units.specs.declared.refusal.Refusal.{Refusal}
 use Rattle.units.specs.declared.refusal.Refusal.TheVariants.{Long, Unended, Range as NoRange}
-use Rattle.units.specs.declared.refusal.Verdict.{Verdict}
-use Rattle.units.specs.declared.refusal.Verdict.TheVariants.{Taken, Refused}
+use Rattle.units.specs.Refusal.{Verdict}
 use Rattle.units.specs.declared.settings.Group.{Group}
 use Rattle.units.specs.Limits.{line_top}
 use Rattle.units.specs.Pick.{pick}
 use Rattle.units.specs.Refusal.{number_of}
 use Rattle.units.specs.Settings.{group_fits}
 use Rattle.units.specs.Within.{within}
+use Rattle.fields.specs.declared.field.Fault.{Fault}
 use Rattle.fields.specs.declared.field.Field.{Field}
-use Rattle.fields.specs.declared.field.Field.TheVariants.{Value, Form, Range}
+use Rattle.fields.specs.declared.field.Fault.TheVariants.{Form, Range}
 use Rattle.fields.specs.Text.{line_feed, until, first_field, lacks, scanned}
 use Rattle.fields.proofs.Cases.{by_test}
 use Rattle.fields.proofs.Texts.{until_all}
-use Rattle.lines.specs.declared.kind.Found.{Found}
-use Rattle.lines.specs.declared.kind.Found.TheVariants.{Known, Unknown}
 use Rattle.lines.specs.declared.kind.Kind.{Kind}
 use Rattle.lines.specs.declared.read.Line.{Line}
 use Rattle.lines.specs.declared.settle.Settling.{Settling}
@@ -68,13 +68,13 @@ GotEarly (values vs) = Unit {0}
 GotEarly (stop why) = Early why
 
 abbrev VerdictEarly : Verdict → Type 0
-VerdictEarly Taken = Unit {0}
-VerdictEarly (Refused why) = Early why
+VerdictEarly (Ok tt) = Unit {0}
+VerdictEarly (Err why) = Early why
 
-onward_early : (f : Field) (go : ℕ → Got) → ((n : ℕ) → GotEarly (go n)) → GotEarly (onward f go)
-onward_early (Value n next) go h = h n
-onward_early Form go h = refl
-onward_early Range go h = refl
+onward_early : (f : Result Field Fault) (go : ℕ → Got) → ((n : ℕ) → GotEarly (go n)) → GotEarly (onward f go)
+onward_early (Ok f) go h = h f.n
+onward_early (Err Form) go h = refl
+onward_early (Err Range) go h = refl
 
 all_early : (S : List ℕ → Limit) (us : List ℕ) (fs : List (List ℕ)) → GotEarly (read_all S us fs)
 unfolding read_all
@@ -99,9 +99,9 @@ with_early : (s : Group) (kind : Kind) (g : Got) → GotEarly g → VerdictEarly
 with_early s kind (values vs) h = tt
 with_early s kind (stop why) h = h
 
-known_early : (s : Group) (fs : List (List ℕ)) (f : Found) → VerdictEarly (read_known s fs f).verdict
-known_early s fs (Known kind) = with_early s kind (read_values kind s fs) (values_early kind s fs)
-known_early s fs Unknown = refl
+known_early : (s : Group) (fs : List (List ℕ)) (f : Option Kind) → VerdictEarly (read_known s fs f).verdict
+known_early s fs (Some kind) = with_early s kind (read_values kind s fs) (values_early kind s fs)
+known_early s fs None = refl
 
 abbrev LineEarly : Line → Type 0
 LineEarly l = VerdictEarly l.verdict
@@ -111,5 +111,5 @@ unfolding read_line read_text
 read_early s line =
     either LineEarly (group_fits s) (either LineEarly (leb (length line) line_top) (either LineEarly (ended_once line) (known_early s _ (kind_in (first_field (until line_feed line)))) refl) refl) refl
 
-pub reader_refuses : (s : Group) (line : List ℕ) (why : Refusal) → (read_line s line).verdict ≡ Refused why → within 1 6 (number_of why) ≡ true
+pub reader_refuses : (s : Group) (line : List ℕ) (why : Refusal) → (read_line s line).verdict ≡ Err why → within 1 6 (number_of why) ≡ true
 reader_refuses s line why e = subst VerdictEarly e (read_early s line)

@@ -1,4 +1,5 @@
 -- THE ROUND TRIPS OF MESSAGES: what was written is read back, what is accepted is what would be written, in range, and room is known. Assumes nothing.
+use Rattle.std.specs.Prelude.{Ok}
 use Prim.Native.Nat.{ℕ, ◌≤◌}
 use mathlib.Core.Path.{◌≡◌, refl, sym, ap, ◌∙◌}
 use mathlib.Core.List.{List, [], ◌∷◌, ◌++◌}
@@ -7,7 +8,6 @@ use native.Mathlib.Omega.{arith}
 use lib.ListN.{length, get_or, drop}
 use borrow.Author.Tests.{le-ltb}
 use Rattle.units.specs.declared.refusal.Refusal.{Refusal}
-use Rattle.units.specs.declared.refusal.Verdict.TheVariants.{Taken}
 use Rattle.units.specs.declared.settings.Group.{Group}
 use Rattle.units.specs.Limits.{line_top}
 use Rattle.units.specs.Pick.{pick}
@@ -19,7 +19,6 @@ use Rattle.message.specs.Message.{plain, message_fits}
 use Rattle.fields.specs.Text.{lacks}
 use Rattle.lines.specs.declared.kind.Kind.{Kind}
 use Rattle.lines.specs.declared.read.Line.{Line}
-use Rattle.lines.specs.declared.write.Written.TheVariants.{Done}
 use Rattle.lines.specs.Lists.{joined}
 use Rattle.lines.specs.Reading.{read_line}
 use Rattle.lines.specs.Values.{message_of, kind_is, head_values, numbers_of}
@@ -53,10 +52,10 @@ line_only s line a e =
     let c = line_accepted s line a e in
     spelt_from s line a c.kind c.numbers c.message c.spelt (meaning c.kind s c.numbers c.group c.readable c.fit)
 
-pub read_fits : (s : Group) (line : List ℕ) → (read_line s line).verdict ≡ Taken → message_fits s (read_line s line).message ≡ true
+pub read_fits : (s : Group) (line : List ℕ) → (read_line s line).verdict ≡ Ok tt → message_fits s (read_line s line).message ≡ true
 read_fits s line e = (line_only s line (read_line s line).message (whole (read_line s line) e)).fits
   where
-    whole : (l : Line) → l.verdict ≡ Taken → l ≡ taken l.message
+    whole : (l : Line) → l.verdict ≡ Ok tt → l ≡ taken l.message
     whole l d = rw (← d)
 
 -- HOW LONG A LINE IS
@@ -73,7 +72,7 @@ refusal_room why = line_short _ (number_of why ∷ []) (omega arith)
 
 -- so a buffer of lineTop bytes is always enough
 pub write_done : (s : Group) (a : Message) (buf : List ℕ) → message_fits s a ≡ true → line_top ≤ length buf
-    → (write_answer (message_fits s a) (spell_line s a) buf ≡ Done (length (spell_line s a))) × (write_buffer (message_fits s a) (spell_line s a) buf ≡ spell_line s a ++ drop (length (spell_line s a)) buf)
+    → (write_answer (message_fits s a) (spell_line s a) buf ≡ Ok (length (spell_line s a))) × (write_buffer (message_fits s a) (spell_line s a) buf ≡ spell_line s a ++ drop (length (spell_line s a)) buf)
 unfolding write_answer write_buffer pick
 write_done s a buf f h =
     let l : length (spell_line s a) ≤ length buf = let r = write_room s a f in omega arith in

@@ -18,12 +18,6 @@ use Rattle.lines.specs.Table.{letter_of, quantity_at, limit_for, limit_of, count
 pub limit_at : {q k : Quantity} (s : Group) (given : ℕ) {r : Limit} → q ≡ k → r ≡ limit_for k s given → r ≡ limit_for q s given
 limit_at s given e h = rw e h
 
-pub quantity_in : {a k : Kind} (place : ℕ) {r : Quantity} → a ≡ k → r ≡ quantity_at k place → r ≡ quantity_at a place
-quantity_in place e h = rw e h
-
-pub count_in : {a k : Kind} (s : Group) (mask : ℕ) {r : ℕ} → a ≡ k → r ≡ count_of k s mask → r ≤ 34 → (r ≡ count_of a s mask) × (r ≤ 34)
-count_in s mask e h l = (rw e h, l)
-
 pub few_bits : (mask : ℕ) → ones (mask % 65536) ≤ 16
 few_bits mask = ones-le 16 (mask % 65536) (mod-lt mask (lit< tt))
 

@@ -1,4 +1,5 @@
 -- What the writer of the settings' lines needs. Assumes nothing.
+use Rattle.std.specs.Prelude.{Err, Ok}
 use Prim.Native.Nat.{ℕ, ◌+◌, ◌-◌, ◌≤◌, ◌<◌}
 use mathlib.Core.Path.{◌≡◌, refl, sym, ap, ◌∙◌}
 use mathlib.Core.List.{List, [], ◌∷◌, ◌++◌, append-nil}
@@ -23,8 +24,7 @@ use Rattle.fields.specs.Text.{tabbed}
 use Rattle.fields.proofs.Puts.{sets_append, put_room, end_room}
 use Rattle.fields.proofs.Texts.{tabbed_append}
 use Rattle.lines.specs.declared.kind.Kind.TheVariants.{Sizes, Filter}
-use Rattle.lines.specs.declared.write.Written.{Written}
-use Rattle.lines.specs.declared.write.Written.TheVariants.{Done, Refused}
+use Rattle.lines.specs.Writing.{Written}
 use Rattle.lines.specs.Settings.{bytes_of, run_number, who, share, run_line, setting_line, setting_fits}
 use Rattle.lines.specs.Table.{quantity_at}
 use Rattle.lines.specs.Writing.{line_of, answer_of, buffer_of, write_answer, write_buffer}
@@ -71,7 +71,7 @@ module _ (run : ℕ) (cs : List ℕ) (factor weight len w n : ℕ) (b : List ℕ
   len_is : len ≡ length (run_line run cs factor weight)
   len_is = rw (run_is run cs factor weight) (simp (length-append, who_long, share_long) (omega arith))
 
-  pub run_room : length b < len → (Refused Room ≡ answer_of (run_line run cs factor weight) b) × (b ≡ buffer_of (run_line run cs factor weight) b)
+  pub run_room : length b < len → (Err Room ≡ answer_of (run_line run cs factor weight) b) × (b ≡ buffer_of (run_line run cs factor weight) b)
   unfolding pick
   run_room s = let k : length b < length (run_line run cs factor weight) = let a = len_is in omega arith in rw (lt-ltb (length b) (length (run_line run cs factor weight)) k) (refl, refl)
 
@@ -90,7 +90,7 @@ module _ (run : ℕ) (cs : List ℕ) (factor weight len w n : ℕ) (b : List ℕ
         pub feed_room : end < length f
         feed_room = let a = length-set b 0 c in let x = who_long run cs in let y = de.0 in let z = fe.0 in let t = share_long factor weight in omega arith
 
-        pub run_put : c ≡ 75 → (Done len ≡ answer_of (run_line run cs factor weight) b) × (set f end 10 ≡ buffer_of (run_line run cs factor weight) b)
+        pub run_put : c ≡ 75 → (Ok len ≡ answer_of (run_line run cs factor weight) b) × (set f end 10 ≡ buffer_of (run_line run cs factor weight) b)
         unfolding pick
         run_put ke =
             let X = who run cs ++ share factor weight in
@@ -125,14 +125,14 @@ module _ (s : Settings) (k : ℕ) (f : setting_fits s k ≡ true) where
       let w = within 1 (2 + s.numbers.group.m) k in
       let r = within_range 1 (2 + s.numbers.group.m) k (and_right (settings_fit s) w f) in (and_left (settings_fit s) w f, r.0, r.1)
 
-  module _ (r : Written) (d b vs : List ℕ) where
-    pub sizes_put : k ≡ 1 → vs ≡ s.numbers.group.g ∷ s.numbers.group.m ∷ [] → (r ≡ answer_of (line_of Sizes vs) b) × (d ≡ buffer_of (line_of Sizes vs) b) → (r ≡ answer_of (setting_line s k) b) × (d ≡ buffer_of (setting_line s k) b)
+  module _ (r : Written) (d b : List ℕ) where
+    pub sizes_put : k ≡ 1 → let line = line_of Sizes (s.numbers.group.g ∷ s.numbers.group.m ∷ []) in (r ≡ answer_of line b) × (d ≡ buffer_of line b) → (r ≡ answer_of (setting_line s k) b) × (d ≡ buffer_of (setting_line s k) b)
     unfolding setting_line pick
-    sizes_put e v h = rw (eq-eqb k 1 e, ← v) h
+    sizes_put e h = rw (eq-eqb k 1 e) h
 
-    pub filter_put : (k ≡ 1 → ⊥) → k ≡ 2 → vs ≡ s.numbers.q ∷ s.numbers.r ∷ s.numbers.p ∷ [] → (r ≡ answer_of (line_of Filter vs) b) × (d ≡ buffer_of (line_of Filter vs) b) → (r ≡ answer_of (setting_line s k) b) × (d ≡ buffer_of (setting_line s k) b)
+    pub filter_put : (k ≡ 1 → ⊥) → k ≡ 2 → let line = line_of Filter (s.numbers.q ∷ s.numbers.r ∷ s.numbers.p ∷ []) in (r ≡ answer_of line b) × (d ≡ buffer_of line b) → (r ≡ answer_of (setting_line s k) b) × (d ≡ buffer_of (setting_line s k) b)
     unfolding setting_line pick
-    filter_put n e v h = rw (ne_eqb k 1 n, eq-eqb k 2 e, ← v) h
+    filter_put n e h = rw (ne_eqb k 1 n, eq-eqb k 2 e) h
 
   module _ (n₁ : k ≡ 1 → ⊥) (n₂ : k ≡ 2 → ⊥) (run : ℕ) (re : run ≡ k - 3) where
     run_below : run < s.numbers.group.m
@@ -153,7 +153,7 @@ module _ (s : Settings) (k : ℕ) (f : setting_fits s k ≡ true) where
 
 -- `write_setting`
 module _ (s : Settings) (k : ℕ) (b : Bool) (be : b ≡ setting_fits s k) (buf : List ℕ) where
-  pub setting_range : not b ≡ true → (Refused Range ≡ write_answer (setting_fits s k) (setting_line s k) buf) × (buf ≡ write_buffer (setting_fits s k) (setting_line s k) buf)
+  pub setting_range : not b ≡ true → (Err Range ≡ write_answer (setting_fits s k) (setting_line s k) buf) × (buf ≡ write_buffer (setting_fits s k) (setting_line s k) buf)
   setting_range t = write_range (setting_fits s k) b be (setting_line s k) buf (not-true b t)
 
   pub setting_put : not b ≡ false → (r : Written) (d : List ℕ) → (r ≡ answer_of (setting_line s k) buf) × (d ≡ buffer_of (setting_line s k) buf)

@@ -1,4 +1,5 @@
 -- FROM A MESSAGE IN RANGE TO ITS LINE'S NUMBERS AND BACK: they are in range, and make the message again. Assumes nothing.
+use Rattle.std.specs.Prelude.{Some}
 use Prim.Native.Nat.{ℕ, zero, suc, ◌+◌, ◌*◌, ◌<◌}
 use mathlib.Core.Path.{◌≡◌, refl, sym, ap, ◌∙◌}
 use mathlib.Core.List.{List, [], ◌∷◌, ◌++◌, append-nil}
@@ -32,7 +33,6 @@ use Rattle.message.specs.View.{Seen, it, other, as_reply, to_reply, as_update, t
 use Rattle.message.proofs.Views.{reply_seen, update_seen, issue_seen}
 use Rattle.fields.proofs.Cases.{by_test, absurd_by}
 use Rattle.lines.specs.declared.kind.Kind.{Kind}
-use Rattle.lines.specs.declared.kind.Found.TheVariants.{Known}
 use Rattle.lines.specs.Lists.{joined}
 use Rattle.lines.specs.Reading.{limit_after}
 use Rattle.lines.specs.Table.{letter_of, kind_of}
@@ -174,7 +174,7 @@ saying s a h e F = seen (reply_seen h) (update_seen h) (issue_seen h) e
 unfoldable pub not_x : Head → Bool
 not_x h = not (eqb (letter_of (kind_is h)) 88)
 
-x_or_read : (h : Head) → ((not_x h ≡ true) × (kind_of (letter_of (kind_is h)) ≡ Known (kind_is h))) ⊎ ((number : ℕ) × (h ≡ Refused number))
+x_or_read : (h : Head) → ((not_x h ≡ true) × (kind_of (letter_of (kind_is h)) ≡ Some (kind_is h))) ⊎ ((number : ℕ) × (h ≡ Refused number))
 unfolding kind_is not_x kind_of pick
 x_or_read (Reading label run raw) = inl (refl, refl)
 x_or_read (Query sender label mask) = inl (refl, refl)
@@ -190,7 +190,7 @@ x_or_read (Floor label) = inl (refl, refl)
 x_or_read (Start own floor) = inl (refl, refl)
 x_or_read (Refused number) = inr (number, refl)
 
-pub readable : (h : Head) → not_x h ≡ true → kind_of (letter_of (kind_is h)) ≡ Known (kind_is h)
+pub readable : (h : Head) → not_x h ≡ true → kind_of (letter_of (kind_is h)) ≡ Some (kind_is h)
 unfolding kind_is not_x
 readable h x = ⊎_elim (λ r. r.1) (λ n. no_way (rw n.1 at x)) (x_or_read h)
 

@@ -1,10 +1,11 @@
 -- What `numbers_of`, `write`, `write_plain` and `write_refusal` need. Assumes nothing.
+use Rattle.std.specs.Prelude.{Err}
 use Prim.Native.Nat.{ℕ, ◌+◌, ◌*◌, ◌≤◌}
-use mathlib.Core.Path.{◌≡◌, refl, sym, ◌∙◌}
+use mathlib.Core.Path.{◌≡◌, refl}
 use mathlib.Core.List.{List, [], ◌∷◌, ◌++◌, append_assoc}
 use mathlib.Core.Bool.{Bool, true, false, ◌&&◌}
 use native.Mathlib.Omega.{arith}
-use lib.ListN.{length, take}
+use lib.ListN.{length, length-append}
 use Rattle.units.specs.declared.refusal.Refusal.{Refusal}
 use Rattle.units.specs.declared.refusal.Refusal.TheVariants.{Range}
 use Rattle.units.specs.declared.settings.Group.{Group}
@@ -15,20 +16,18 @@ use Rattle.units.proofs.Every.{and_three}
 use Rattle.units.proofs.InRange.{group_range}
 use Rattle.floats.specs.Ranges.{state_fits, targets_fit}
 use Rattle.message.specs.declared.head.Carried.{Carried}
-use Rattle.message.specs.declared.head.Head.{Head}
 use Rattle.message.specs.declared.value.Message.{Message}
 use Rattle.message.specs.Head.{carried, head_fits}
 use Rattle.message.specs.Message.{message_fits}
 use Rattle.message.specs.Readings.{readings_fit}
 use Rattle.lines.specs.declared.kind.Kind.{Kind}
 use Rattle.lines.specs.declared.kind.Kind.TheVariants.{Refused as OfRefused}
-use Rattle.lines.specs.declared.numbers.LineNumbers.{LineNumbers}
-use Rattle.lines.specs.declared.write.Written.{Written}
-use Rattle.lines.specs.declared.write.Written.TheVariants.{Refused}
+use Rattle.lines.specs.Writing.{Written}
 use Rattle.lines.specs.Lists.{joined}
 use Rattle.lines.specs.Values.{kind_is, head_values, raw_of, floats_of, target_of, numbers_of}
 use Rattle.lines.specs.Writing.{line_of, spell_line, refusal_line, answer_of, buffer_of, write_answer, write_buffer}
 use Rattle.lines.proofs.Adding.{Roomy, roomy}
+use Rattle.lines.proofs.Arrays.{floats_length}
 
 -- WHAT A MESSAGE IN RANGE HAS IN RANGE
 pub group_runs : (s : Group) → group_fits s ≡ true → (1 ≤ s.m) × (s.m ≤ 16)
@@ -65,29 +64,25 @@ module _ (s : Group) (a : Message) (fit : message_fits s a ≡ true) (c : Carrie
   all_few : length (head_values a.head ++ joined (raw_of c.readings a.readings) 16) + 2 * c.estimates + c.targets ≤ 34
   all_few = rw ce room.all
 
-  module _ (h : LineNumbers) (he : (h.n ≡ length (head_values a.head)) × (take h.n h.v ≡ head_values a.head) × (length h.v ≡ 34)) where
-    pub head_few : (h.n ≤ 4) × (length h.v ≡ 34)
-    head_few = (let l = room.head in let e = he.0 in omega arith, he.2)
+  pub head_few : length (head_values a.head) ≤ 4
+  head_few = room.head
 
-    module _ (r : LineNumbers) (re : (r.n ≡ length (take h.n h.v ++ joined (raw_of c.readings a.readings) 16)) × (take r.n r.v ≡ take h.n h.v ++ joined (raw_of c.readings a.readings) 16) × (length r.v ≡ 34)) where
-      raws_count : r.n ≡ length (head_values a.head ++ joined (raw_of c.readings a.readings) 16)
-      raws_count = re.0 ∙ rw he.1
+  pub raws_few : (length (head_values a.head ++ joined (raw_of c.readings a.readings) 16) + 2 * c.estimates ≤ 34) × (c.estimates ≤ 16)
+  raws_few = (omega (arith, all_few), rw ce room.runs)
 
-      pub raws_few : (r.n + 2 * c.estimates ≤ 34) × (c.estimates ≤ 16) × (length r.v ≡ 34)
-      raws_few = (let l = all_few in let e = raws_count in omega arith, rw ce room.runs, re.2)
+  pub floats_few : (length (head_values a.head ++ joined (raw_of c.readings a.readings) 16 ++ joined (floats_of a.estimates) c.estimates) + c.targets ≤ 34) × (c.targets ≤ 16)
+  floats_few = (
+    omega (arith, all_few, length-append (head_values a.head ++ joined (raw_of c.readings a.readings) 16) (joined (floats_of a.estimates) c.estimates), floats_length a.estimates c.estimates),
+    rw ce room.shares,
+  )
 
-      module _ (x : LineNumbers) (xe : (x.n ≡ r.n + 2 * c.estimates) × (take x.n x.v ≡ take r.n r.v ++ joined (floats_of a.estimates) c.estimates) × (length x.v ≡ 34)) where
-        pub floats_few : (x.n + c.targets ≤ 34) × (c.targets ≤ 16) × (length x.v ≡ 34)
-        floats_few = (let l = all_few in let e = raws_count in let f = xe.0 in omega arith, rw ce room.shares, xe.2)
-
-        pub all_numbers : (y : LineNumbers) → (y.n ≡ x.n + c.targets) × (take y.n y.v ≡ take x.n x.v ++ joined (target_of a.targets) c.targets) × (length y.v ≡ 34)
-            → (take y.n y.v ≡ numbers_of s a) × (y.n ≤ 34) × (length y.v ≡ 34)
-        unfolding numbers_of
-        all_numbers y ye = (rw (← ce, ye.1, xe.1, re.1, he.1) (simp append_assoc), let l = all_few in let e = raws_count in let f = xe.0 in let g = ye.0 in omega arith, ye.2)
+  pub all_numbers : head_values a.head ++ joined (raw_of c.readings a.readings) 16 ++ joined (floats_of a.estimates) c.estimates ++ joined (target_of a.targets) c.targets ≡ numbers_of s a
+  unfolding numbers_of
+  all_numbers = rw ce (simp append_assoc)
 
 -- `write` and `write_plain`: what may be written is, by a test
 module _ (fit b : Bool) (be : b ≡ fit) (text buf : List ℕ) where
-  pub write_range : b ≡ false → (Refused Range ≡ write_answer fit text buf) × (buf ≡ write_buffer fit text buf)
+  pub write_range : b ≡ false → (Err Range ≡ write_answer fit text buf) × (buf ≡ write_buffer fit text buf)
   unfolding write_answer write_buffer pick
   write_range t = rw (← be, t) (refl, refl)
 
@@ -99,10 +94,6 @@ module _ (fit b : Bool) (be : b ≡ fit) (text buf : List ℕ) where
 pub spelled : (s : Group) (a : Message) (k : Kind) (vs : List ℕ) → k ≡ kind_is a.head → vs ≡ numbers_of s a → spell_line s a ≡ line_of k vs
 unfolding spell_line
 spelled s a k vs ke ve = rw (ke, ve)
-
--- `write_plain`
-pub plain_few : (s : Group) (head : Head) (g : Bool) (n : ℕ) → g ≡ group_fits s → g ≡ true → n ≡ length (head_values head) → n ≤ 34
-plain_few s head g n ge t e = let l = (roomy s head [] (group_runs s (sym ge ∙ t)).1).head in omega arith
 
 -- `write_refusal`
 pub refusal_put : (why : Refusal) (n : ℕ) (vs buf : List ℕ) (r : Written) (d : List ℕ) → n ≡ number_of why → vs ≡ n ∷ []

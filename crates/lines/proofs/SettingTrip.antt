@@ -7,13 +7,15 @@ use native.Mathlib.Omega.{arith}
 use lib.Dec.{eqb, leb, lit<}
 use lib.ListN.{length, get_or, drop, length-append}
 use borrow.Author.Tests.{eq-eqb, eqb-true, leb-true}
+use Rattle.std.specs.Prelude.{Result, Ok, Err}
 use Rattle.units.specs.declared.refusal.Refusal.{Refusal}
 use Rattle.units.specs.declared.refusal.Refusal.TheVariants.{Long, Unended, Kind as NoKind, Fields, Form as NoForm}
 use Rattle.units.specs.Pick.{pick}
 use Rattle.units.proofs.Every.{no_way}
 use Rattle.message.specs.declared.settings.Settings.{Settings}
+use Rattle.fields.specs.declared.field.Fault.{Fault}
 use Rattle.fields.specs.declared.field.Field.{Field}
-use Rattle.fields.specs.declared.field.Field.TheVariants.{Value, Form, Range}
+use Rattle.fields.specs.Field.{value}
 use Rattle.fields.specs.declared.spelling.Spelling.TheVariants.{Decimal}
 use Rattle.fields.specs.Certificate.{is_certificate}
 use Rattle.fields.specs.Put.{written}
@@ -130,7 +132,7 @@ module _ (st : Settling) where
   filter_only line e a = plain_only st Filter (with_filter st.settings) (λ text. filter_text st text e) line a
 
 -- K
-by_read : (l : Limit) (n : ℕ) → fits_by l n ≡ true → read_by l (written l.spelling n) ≡ Value n 0
+by_read : (l : Limit) (n : ℕ) → fits_by l n ≡ true → read_by l (written l.spelling n) ≡ value n 0
 by_read l n f = rw (written_is l.spelling n (fits_range l.spelling l.low l.high n f).can) (field_read l.spelling l.low l.high 0 n f)
 
 -- a field that is taken, its number, and what goes on
@@ -143,12 +145,11 @@ record Took (l : Limit) (f : List ℕ) (go : ℕ → Settled) : Type 0 where
 field_taken : (st : Settling) (l : Limit) (f : List ℕ) (go : ℕ → Settled) → takes (after_field st (read_by l f) go).answer ≡ true → Took l f go
 field_taken st l f go a = by_field (read_by l f) refl a
   where
-    by_field : (g : Field) → read_by l f ≡ g → takes (after_field st g go).answer ≡ true → Took l f go
-    by_field (Value n next) e a =
-        let o = field_only l.spelling l.low l.high 0 f n next e in
-        record { number = n; spelt = o.spelt ∙ sym (written_is l.spelling n (fits_range l.spelling l.low l.high n o.inside).can); inside = o.inside; on = a }
-    by_field Form e a = no_way a
-    by_field Range e a = no_way a
+    by_field : (g : Result Field Fault) → read_by l f ≡ g → takes (after_field st g go).answer ≡ true → Took l f go
+    by_field (Ok g) e a =
+        let o = field_only l.spelling l.low l.high 0 f g.n g.next e in
+        record { number = g.n; spelt = o.spelt ∙ sym (written_is l.spelling g.n (fits_range l.spelling l.low l.high g.n o.inside).can); inside = o.inside; on = a }
+    by_field (Err why) e a = no_way a
 
 abbrev run_fields : ℕ → List ℕ → ℕ → ℕ → List (List ℕ)
 run_fields run cs factor weight = run_number 0 run ∷ cs ∷ run_number 1 factor ∷ run_number 2 weight ∷ []

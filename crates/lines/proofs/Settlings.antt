@@ -1,39 +1,36 @@
 -- What the settings' reader needs. Assumes nothing.
 use Prim.Native.Nat.{ℕ, suc, ◌+◌, ◌-◌, ◌≤◌, ◌<◌}
-use mathlib.Core.Path.{◌≡◌, refl, sym, ap, ◌∙◌}
-use mathlib.Core.List.{List, [], ◌∷◌}
+use mathlib.Core.Path.{◌≡◌, refl, sym, ap, subst, ◌∙◌}
+use mathlib.Core.List.{List, [], ◌∷◌, ◌++◌}
 use mathlib.Core.Bool.{Bool, true, false, not}
 use native.Mathlib.Omega.{arith}
-use lib.ListN.{length, get_or, take, drop, length-drop, get_or-eq_default}
-use lib.Seq.{get_or-take, get_or-drop, length-take-le}
+use lib.ListN.{length, get_or, take, drop, replicate, length-drop}
+use lib.Seq.{length-take-le}
 use borrow.Author.Tests.{eq-eqb, ne_eqb, eqb-true, le-leb, lt-leb, lt-ltb, le-ltb, not-true, not-false}
+use Rattle.std.specs.Prelude.{Option, Some, None, Result}
 use Rattle.units.specs.declared.refusal.Refusal.TheVariants.{Long, Unended, Kind as NoKind}
-use Rattle.units.specs.declared.refusal.Verdict.{Verdict}
+use Rattle.units.specs.Refusal.{Verdict}
 use Rattle.units.specs.declared.settings.Group.{Group}
 use Rattle.units.specs.Pick.{pick}
 use Rattle.units.proofs.Picked.{by_yes}
 use Rattle.message.specs.declared.certificate.Certificate.{Certificate}
 use Rattle.message.specs.declared.settings.Settings.{Settings}
-use Rattle.fields.specs.declared.certificate.Certificate.{Certificate as Found}
-use Rattle.fields.specs.declared.certificate.Certificate.TheVariants.{At, Form as NoCertificate}
-use Rattle.fields.specs.declared.digit.Digits.{Digits}
-use Rattle.fields.specs.declared.digit.Digits.TheVariants.{Said, Wrong}
+use Rattle.fields.specs.declared.field.Fault.{Fault}
 use Rattle.fields.specs.declared.field.Field.{Field}
-use Rattle.fields.specs.declared.field.Field.TheVariants.{Value}
 use Rattle.fields.specs.declared.spelling.Spelling.{Spelling}
 use Rattle.fields.specs.declared.text.Scan.{Scan}
 use Rattle.fields.specs.Certificate.{is_certificate, certificate_at}
-use Rattle.fields.specs.Field.{said_by, fits, judge, read_field, read_at}
+use Rattle.fields.specs.Field.{value, said_by, fits, judge, read_field, read_at}
 use Rattle.fields.specs.Text.{until, first_field, later_fields, fields_of, field_at, next_at, scanned}
 use Rattle.fields.proofs.Cases.{by_test, absurd_by}
 use Rattle.fields.proofs.Certificates.{certificate_only, certificate_long}
 use Rattle.fields.proofs.Texts.{cursor_field, cursor_more, until_take, until_short}
+use Rattle.lines.proofs.Columns.{column_padded}
 use Rattle.lines.specs.declared.kind.Kind.{Kind}
 use Rattle.lines.specs.declared.kind.Kind.TheVariants.{Sizes, Filter, Run}
 use Rattle.lines.specs.declared.settle.Settled.{Settled}
 use Rattle.lines.specs.declared.settle.Settling.{Settling}
 use Rattle.lines.specs.declared.table.Limit.{Limit}
-use Rattle.lines.specs.Lists.{column}
 use Rattle.lines.specs.Reading.{read_by, read_values, ended_once}
 use Rattle.lines.specs.Settling.{kept, stopped, with_sizes, with_filter, run_with, certificate_of, turn_of, any_group, kept_values, settle_plain, after_field, settle_run, is_kind, expecting, settle_text, settle_line}
 use Rattle.lines.specs.Table.{letter_of, limit_of, runs_of}
@@ -86,21 +83,19 @@ module _ (text : List ℕ) (from to : ℕ) where
   cut_long : from ≤ to → to ≤ length text → length (take (to - from) (drop from text)) ≡ to - from
   cut_long h l = length-take-le (to - from) (drop from text) (let a = length-drop from text in omega arith)
 
-  pub byte_is : (i : ℕ) → i < to - from → get_or text (from + i) 0 ≡ get_or (take (to - from) (drop from text)) i 0
-  byte_is i h = sym (get_or-take (to - from) (drop from text) i 0 h ∙ get_or-drop from text i 0)
-
-  pub bytes_left : from ≤ to → to ≤ length text → (i : ℕ) → to - from ≤ i → (j : ℕ) → i ≤ j → j < 16 → get_or (take (to - from) (drop from text)) j 0 ≡ 0
-  bytes_left h l i b j a c = get_or-eq_default (take (to - from) (drop from text)) 0 {n = j} (let e = cut_long h l in omega arith)
-
-  pub certificate_made : (len : ℕ) (bytes : List ℕ) → from ≤ to → to ≤ length text → len ≡ to - from → bytes ≡ column (λ i. get_or (take (to - from) (drop from text)) i 0) 16
-      → ◌≡◌ {A = Certificate} (record { len = len; bytes = bytes }) (certificate_of (take (to - from) (drop from text)))
-  certificate_made len bytes h l e p = rw (p, e, cut_long h l)
+  pub certificate_made : {bytes : List ℕ} → from ≤ to → to ≤ length text → to - from ≤ 16 → bytes ≡ take (to - from) (drop from text)
+      → ◌≡◌ {A = Certificate} (record { len = to - from; bytes = bytes ++ drop (to - from) (replicate 16 0) }) (certificate_of (take (to - from) (drop from text)))
+  certificate_made h l k e =
+      let cs = take (to - from) (drop from text) in
+      let P : ℕ → Type 0 = λ n. ◌≡◌ {A = Certificate} (record { len = n; bytes = cs ++ drop n (replicate 16 0) }) (certificate_of cs) in
+      let n = cut_long h l in
+      rw e (subst P n (ap (λ (b : List ℕ). record { len = length cs; bytes = b }) (column_padded cs (omega arith))))
 
 -- A FIELD OF K
-judge_after : (st : Settling) (sp : Spelling) (low high a b : ℕ) (d : Digits) (go : ℕ → Settled) → after_field st (judge sp low high a d) go ≡ after_field st (judge sp low high b d) go
+judge_after : (st : Settling) (sp : Spelling) (low high a b : ℕ) (d : Option ℕ) (go : ℕ → Settled) → after_field st (judge sp low high a d) go ≡ after_field st (judge sp low high b d) go
 unfolding judge
-judge_after st sp low high a b (Said n) go = by_test (fits sp low high n) (λ t. rw t) (λ t. rw t)
-judge_after st sp low high a b Wrong go = refl
+judge_after st sp low high a b (Some n) go = by_test (fits sp low high n) (λ t. rw t) (λ t. rw t)
+judge_after st sp low high a b None go = refl
 
 here_more : (text : List ℕ) (at k next : ℕ) → Here text at k → k < length (later_fields text) → next ≡ next_at text at → Here text next (k + 1)
 here_more text at k next h l e m =
@@ -113,23 +108,23 @@ here_field : (text : List ℕ) (at k : ℕ) → Here text at k → k < length (l
 here_field text at k h l = cursor_field text at (suc k) (h l)
 
 -- what is read of a field decides, and leads to the next field
-pub record Judged (st : Settling) (text : List ℕ) (k i : ℕ) (g : Field) : Type 0 where
-  pub after : {x : Field} (go : ℕ → Settled) {r : Settled} → g ≡ x → r ≡ after_field st x go → r ≡ after_field st (read_by (limit_of Run i any_group (turn_of st)) (get_or (later_fields text) k [])) go
-  pub more : {n next : ℕ} → g ≡ Value n next → Here text next (k + 1)
+pub record Judged (st : Settling) (text : List ℕ) (k i : ℕ) (g : Result Field Fault) : Type 0 where
+  pub after : {x : Result Field Fault} (go : ℕ → Settled) {r : Settled} → g ≡ x → r ≡ after_field st x go → r ≡ after_field st (read_by (limit_of Run i any_group (turn_of st)) (get_or (later_fields text) k [])) go
+  pub more : {n next : ℕ} → g ≡ value n next → Here text next (k + 1)
 
-pub judged : (st : Settling) (text : List ℕ) (at k i : ℕ) {s : Group} {turn : ℕ} {l : Limit} {g : Field} → s ≡ any_group → turn ≡ turn_of st → l ≡ limit_of Run i s turn
+pub judged : (st : Settling) (text : List ℕ) (at k i : ℕ) {s : Group} {turn : ℕ} {l : Limit} {g : Result Field Fault} → s ≡ any_group → turn ≡ turn_of st → l ≡ limit_of Run i s turn
     → g ≡ read_at text at l.spelling l.low l.high
     → Here text at k → k < length (later_fields text) → Judged st text k i g
 unfolding read_at read_field
 judged st text at k i {s} {turn} {l} {g} se te le ge h kl = record {
   after = λ {x} go {r} e d.
       rw (← te, ← se, ← le, ← here_field text at k h kl)
-      (d ∙ ap (λ (y : Field). after_field st y go) (sym e ∙ ge) ∙ judge_after st l.spelling l.low l.high (next_at text at) 0 (said_by l.spelling (field_at text at)) go);
+      (d ∙ ap (λ (y : Result Field Fault). after_field st y go) (sym e ∙ ge) ∙ judge_after st l.spelling l.low l.high (next_at text at) 0 (said_by l.spelling (field_at text at)) go);
   more = λ {n} {next} e. here_more text at k next h kl (read_next text at l.spelling l.low l.high n next (sym ge ∙ e));
 }
 
 -- THE CERTIFICATE
-module _ (text : List ℕ) (at : ℕ) (c : Found) (ce : c ≡ certificate_at text at) (four : length (later_fields text) ≡ 4) (h : Here text at 1) where
+module _ (text : List ℕ) (at : ℕ) (c : Option ℕ) (ce : c ≡ certificate_at text at) (four : length (later_fields text) ≡ 4) (h : Here text at 1) where
   field_is : field_at text at ≡ get_or (later_fields text) 1 []
   field_is = here_field text at 1 h (omega arith)
 
@@ -141,7 +136,7 @@ module _ (text : List ℕ) (at : ℕ) (c : Found) (ce : c ≡ certificate_at tex
     pub next : Here text (end + 1) 2
     pub shown : is_certificate (get_or (later_fields text) 1 []) ≡ true
 
-  pub cut : (end : ℕ) → c ≡ At end → Cut end
+  pub cut : (end : ℕ) → c ≡ Some end → Cut end
   cut end e =
       let o = certificate_only text at end (sym ce ∙ e) in
       let n = certificate_long (field_at text at) o.0 in
@@ -158,9 +153,9 @@ module _ (text : List ℕ) (at : ℕ) (c : Found) (ce : c ≡ certificate_at tex
         shown = rw (← field_is) o.0;
       }
 
-  pub not_cut : c ≡ NoCertificate → is_certificate (get_or (later_fields text) 1 []) ≡ false
+  pub not_cut : c ≡ None → is_certificate (get_or (later_fields text) 1 []) ≡ false
   unfolding certificate_at
-  not_cut e = rw (← field_is) (by_test (is_certificate (field_at text at)) (λ t. absurd_by (let z : NoCertificate ≡ certificate_at text at = sym e ∙ ce in let y = rw t at z in cc)) (λ t. t))
+  not_cut e = rw (← field_is) (by_test (is_certificate (field_at text at)) (λ t. absurd_by (let z : None ≡ certificate_at text at = sym e ∙ ce in let y = rw t at z in cc)) (λ t. t))
 
 -- THE WEIGHT
 pub weight_kept : (st : Settling) (text : List ℕ) (turn : ℕ) (c : Certificate) (factor n : ℕ) (x : Settings) (r : Settled) → turn ≡ turn_of st → c ≡ certificate_of (get_or (later_fields text) 1 [])

@@ -8,12 +8,13 @@ use lib.Dec.{eqb}
 use lib.ListN.{length, get_or, take, drop, take-append-drop, get_or-append}
 use lib.Seq.{take_at, drop_at, length-take-le, get_or-take}
 use borrow.Author.Tests.{eq-eqb, eqb-true, le-leb}
+use Rattle.std.specs.Prelude.{Result, Ok, Err}
 use Rattle.units.specs.declared.settings.Group.{Group}
 use Rattle.units.specs.Pick.{pick}
 use Rattle.units.proofs.Every.{and_left, and_right}
+use Rattle.fields.specs.declared.field.Fault.{Fault}
 use Rattle.fields.specs.declared.field.Field.{Field}
-use Rattle.fields.specs.declared.field.Field.TheVariants.{Value, Form, Range}
-use Rattle.fields.specs.Field.{fits, spelled}
+use Rattle.fields.specs.Field.{value, fits, spelled}
 use Rattle.fields.proofs.Cases.{by_test, by_lt, absurd_by}
 use Rattle.fields.proofs.Puts.{written_is}
 use Rattle.fields.proofs.Spellings.{field_only, field_read, fits_range}
@@ -47,10 +48,9 @@ pub record Read (S : List ℕ → Limit) (us vs : List ℕ) (fs : List (List ℕ
   pub fit : fit_all S us rest ≡ true
 
 -- a field that a reading went on from
-went_on : (g : Field) (go : ℕ → Got) (vs : List ℕ) → onward g go ≡ values vs → (n : ℕ) × (next : ℕ) × (g ≡ Value n next) × (go n ≡ values vs)
-went_on (Value n next) go vs e = (n, next, refl, e)
-went_on Form go vs e = absurd_by (cc)
-went_on Range go vs e = absurd_by (cc)
+went_on : (g : Result Field Fault) (go : ℕ → Got) (vs : List ℕ) → onward g go ≡ values vs → (n : ℕ) × (next : ℕ) × (g ≡ value n next) × (go n ≡ values vs)
+went_on (Ok f) go vs e = (f.n, f.next, refl, e)
+went_on (Err why) go vs e = absurd_by (cc)
 
 pub read_only : (S : List ℕ → Limit) (us : List ℕ) (fs : List (List ℕ)) (vs : List ℕ) → read_all S us fs ≡ values vs → Read S us vs fs
 unfolding read_all spelled_all fit_all

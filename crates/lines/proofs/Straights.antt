@@ -1,23 +1,23 @@
 -- What the functions need that read a line straight on: one number more, and the whole line. Assumes nothing.
+use Rattle.std.specs.Prelude.{Some, Result, Ok, Err}
 use Prim.Native.Nat.{ℕ, suc, ◌+◌, ◌≤◌, ◌<◌}
 use mathlib.Core.Path.{◌≡◌, refl, sym, ap, ◌∙◌}
 use mathlib.Core.List.{List, [], ◌∷◌, ◌++◌, append-nil}
-use mathlib.Core.Bool.{Bool, true, false, not}
+use mathlib.Core.Bool.{Bool, true}
 use native.Mathlib.Omega.{arith}
 use native.Mathlib.Numerals.{add-one}
 use lib.Dec.{eqb}
 use lib.ListN.{length, get_or, take, drop, set, length-set, take-append-drop, drop_of_length-le}
 use lib.Seq.{drop-cons, take-add, take-append-add, take-append_seam, take-suc-set, length-take-le, get_or-set_other}
-use borrow.Author.Tests.{eqb-true, not-false}
-use Rattle.units.specs.declared.refusal.Verdict.TheVariants.{Taken}
+use borrow.Author.Tests.{eqb-true}
 use Rattle.units.specs.declared.settings.Group.{Group}
-use Rattle.units.specs.Pick.{pick}
 use Rattle.units.specs.Settings.{group_fits}
 use Rattle.message.specs.declared.value.Message.{Message}
+use Rattle.fields.specs.declared.field.Fault.{Fault}
 use Rattle.fields.specs.declared.field.Field.{Field}
-use Rattle.fields.specs.declared.field.Field.TheVariants.{Value, Form}
+use Rattle.fields.specs.declared.field.Fault.TheVariants.{Form}
 use Rattle.fields.specs.declared.spelling.Spelling.TheVariants.{Decimal}
-use Rattle.fields.specs.Field.{spelled, read_here}
+use Rattle.fields.specs.Field.{value, spelled, read_here}
 use Rattle.fields.specs.Text.{until, starts, tabbed}
 use Rattle.fields.proofs.Cases.{by_test, by_lt, absurd_by}
 use Rattle.fields.proofs.Spellings.{field_read}
@@ -25,7 +25,6 @@ use Rattle.fields.proofs.Starts.{Stands, here_only}
 use Rattle.fields.proofs.Texts.{until_append, tabbed_append}
 use Rattle.lines.specs.declared.kind.Kind.{Kind}
 use Rattle.lines.specs.declared.kind.Kind.TheVariants.{Reading}
-use Rattle.lines.specs.declared.kind.Found.TheVariants.{Known}
 use Rattle.lines.specs.declared.read.First.{First}
 use Rattle.lines.specs.declared.table.Limit.{Limit}
 use Rattle.lines.specs.Reading.{values, limit_after, read_all, first_of, first_line, read_line}
@@ -42,10 +41,10 @@ use Rattle.lines.proofs.Walking.{limit_after_lem}
 use Rattle.lines.proofs.Wire.{taken, text_of, letter_only, line_ends, line_back}
 
 -- a byte that stands at a place
-pub at_place : (text : List ℕ) (at b : ℕ) (t : Bool) → t ≡ starts b (drop at text) → not t ≡ false → drop at text ≡ b ∷ drop (at + 1) text
+pub at_place : (text : List ℕ) (at b : ℕ) (t : Bool) → t ≡ starts b (drop at text) → t ≡ true → drop at text ≡ b ∷ drop (at + 1) text
 unfolding starts
 at_place text at b t e n =
-    let q : starts b (drop at text) ≡ true = sym e ∙ not-false t n in
+    let q : starts b (drop at text) ≡ true = sym e ∙ n in
     by_lt at (length text)
     (λ h. let d = drop-cons text at 0 h in let z = rw d at q in d ∙ rw (eqb-true (get_or text at 0) b z, add-one at))
     (λ h. let z = rw (drop_of_length-le text {i = at} h) at q in absurd_by (cc))
@@ -58,7 +57,7 @@ trod_start kind s (c ∷ cs) v h l r = record { texts = []; passed = refl; got =
 
 -- ONE NUMBER MORE
 module _ (kind : Kind) (s : Group) (input v : List ℕ) (k at : ℕ) (w : Trod kind s input v k at) (kt : k < 34) (l : Limit) (limit_is : l ≡ limit_after kind s (take k v))
-    (n next : ℕ) (tab : drop at input ≡ 9 ∷ drop (at + 1) input) (e : read_here input (at + 1) l.spelling l.low l.high ≡ Value n next) where
+    (n next : ℕ) (tab : drop at input ≡ 9 ∷ drop (at + 1) input) (e : read_here input (at + 1) l.spelling l.low l.high ≡ value n next) where
   here : Stands input (at + 1) l.spelling l.low l.high n next
   here = here_only input (at + 1) l.spelling l.low l.high n next e
 
@@ -92,7 +91,7 @@ module _ (kind : Kind) (s : Group) (input v : List ℕ) (k at : ℕ) (w : Trod k
 
 -- THE WHOLE LINE
 module _ {kind : Kind} {s : Group} {input v : List ℕ} {k at : ℕ} (w : Trod kind s input v k at) (ke : k ≡ count_of kind s (get_or v 2 0)) (gr : group_fits s ≡ true)
-    (known : kind_of (get_or input 0 0) ≡ Known kind) (feed : drop at input ≡ 10 ∷ drop (at + 1) input) where
+    (known : kind_of (get_or input 0 0) ≡ Some kind) (feed : drop at input ≡ 10 ∷ drop (at + 1) input) where
   letter : get_or input 0 0 ≡ letter_of kind
   letter = letter_only (get_or input 0 0) kind known
 
@@ -124,7 +123,7 @@ module _ {kind : Kind} {s : Group} {input v : List ℕ} {k at : ℕ} (w : Trod k
   line_is : first_of input ≡ line_of kind (take k v)
   line_is = rw until_is (ap (take (length (text_of kind (take k v)) + 1)) input_is ∙ take-append-add (text_of kind (take k v)) (10 ∷ drop (at + 1) input) 1 ∙ sym (line_ends kind (take k v)).0)
 
-  pub straight_line : {m : Message} → m ≡ message_of s kind v → ◌≡◌ {A = First} (record { line = record { verdict = Taken; message = m }; feed = at }) (first_line s input)
+  pub straight_line : {m : Message} → m ≡ message_of s kind v → ◌≡◌ {A = First} (record { line = record { verdict = Ok tt; message = m }; feed = at }) (first_line s input)
   unfolding first_line
   straight_line {m} me =
       let r : read_line s (first_of input) ≡ taken (message_of s kind (take k v)) = ap (read_line s) line_is ∙ line_back kind s (take k v) gr (rw letter at known) fit in
@@ -132,49 +131,27 @@ module _ {kind : Kind} {s : Group} {input v : List ℕ} {k at : ℕ} (w : Trod k
       rw (r, z, ← feed_is)
 
 -- `go_on`
-pub record Treading (kind : Kind) (s : Group) (input v₀ : List ℕ) (from to : ℕ) (v : List ℕ) (at k : ℕ) : Type 0 where
-  pub after : from ≤ k
-  pub before_end : k ≤ to
-  pub room : to ≤ 34
-  pub trod : Trod kind s input v k at
-  pub kept : (i : ℕ) → i < from → get_or v i 0 ≡ get_or v₀ i 0
+abbrev pub Treading : Kind → Group → List ℕ → List ℕ → ℕ → List ℕ → ℕ → ℕ → Type 0
+Treading kind s input v₀ from v at k = Trod kind s input v k at × ((i : ℕ) → i < from → get_or v i 0 ≡ get_or v₀ i 0)
 
-abbrev Came : Kind → Group → List ℕ → List ℕ → ℕ → ℕ → List ℕ → Bool → ℕ → Type 0
-Came kind s input v₀ from to v good at = (good ≡ true → Trod kind s input v to at) × ((i : ℕ) → i < from → get_or v i 0 ≡ get_or v₀ i 0)
-
-module _ {kind : Kind} {s : Group} {input v₀ : List ℕ} {from to : ℕ} {v : List ℕ} {at k : ℕ} (w : Treading kind s input v₀ from to v at k) where
-  pub tread_stop : (x : ℕ) → Came kind s input v₀ from to v false x
-  tread_stop x = (λ e. absurd_by (cc), w.kept)
-
-  pub tread_end : to ≤ k → Came kind s input v₀ from to v true at
-  tread_end h = let a = w.before_end in let q : k ≡ to = omega arith in (λ e. rw q at w.trod, w.kept)
-
-  pub tread_more : k < to → {t : Bool} → t ≡ starts 9 (drop at input) → not t ≡ false → {label : ℕ} {l : Limit} {g : Field} → label ≡ get_or (take k v) 1 0 → l ≡ limit_of kind k s label
-      → g ≡ read_here input (at + 1) l.spelling l.low l.high → {n next : ℕ} → g ≡ Value n next → Treading kind s input v₀ from to (set v k n) next (k + 1)
-  tread_more h {t} te tn {label} {l} {g} le be ge {n} {next} e =
-      let a = w.after in
-      let b = w.room in
-      record {
-        after = omega arith;
-        before_end = omega arith;
-        room = w.room;
-        trod = trod_more kind s input v k at w.trod (omega arith) l (limit_after_lem kind s v k label l w.trod.few w.trod.long le be) n next (at_place input at 9 t te tn) (sym ge ∙ e);
-        kept = λ i j. get_or-set_other v k i n 0 (λ z. absurd (omega arith)) ∙ w.kept i j;
-      }
+pub tread_more : {kind : Kind} {s : Group} {input : List ℕ} (v₀ : List ℕ) (from : ℕ) {v : List ℕ} {at k : ℕ} → Treading kind s input v₀ from v at k → from ≤ k → k < 34
+    → {t : Bool} → t ≡ starts 9 (drop at input) → t ≡ true → {label : ℕ} {l : Limit} {g : Result Field Fault} → label ≡ get_or (take k v) 1 0 → l ≡ limit_of kind k s label
+    → g ≡ read_here input (at + 1) l.spelling l.low l.high → {n next : ℕ} → g ≡ value n next → Treading kind s input v₀ from (set v k n) next (k + 1)
+tread_more {kind} {s} {input} v₀ from {v} {at} {k} w h b {t} te tn {label} {l} {g} le be ge {n} {next} e = (
+  trod_more kind s input v k at w.0 b l (limit_after_lem kind s v k label l w.0.few w.0.long le be) n next (at_place input at 9 t te tn) (sym ge ∙ e),
+  λ i j. get_or-set_other v k i n 0 (λ z. absurd (omega arith)) ∙ w.1 i j,
+)
 
 -- `numbers_in`
-module _ {kind : Kind} {s : Group} {input v : List ℕ} {heads total at : ℕ} {good : Bool} (came : good ≡ true → Trod kind s input v heads at) (te : total ≡ count_of kind s (get_or v 2 0)) where
-  pub all_heads : total ≡ heads → good ≡ true → Trod kind s input v (count_of kind s (get_or v 2 0)) at
-  all_heads q e = rw (← te, q) (came e)
-
-  pub all_total : {x : List ℕ} {b : Bool} {end : ℕ} → heads ≡ count_of kind s 0 → Came kind s input v heads total x b end → b ≡ true → Trod kind s input x (count_of kind s (get_or x 2 0)) end
-  all_total {x} he c e = rw (← count_same kind s (get_or v 2 0) (get_or x 2 0) (λ l. sym (c.1 2 (omega arith))), ← te) (c.0 e)
+pub all_total : {kind : Kind} {s : Group} {input : List ℕ} (v : List ℕ) {heads total : ℕ} → total ≡ count_of kind s (get_or v 2 0) → heads ≡ count_of kind s 0
+    → {x : List ℕ} {end : ℕ} → ((i : ℕ) → i < heads → get_or x i 0 ≡ get_or v i 0) → Trod kind s input x total end → Trod kind s input x (count_of kind s (get_or x 2 0)) end
+all_total {kind} {s} v te he {x} kept w = rw (← count_same kind s (get_or v 2 0) (get_or x 2 0) (λ l. sym (kept 2 (omega arith))), ← te) w
 
 -- `after_tab`
-pub after_none : (input : List ℕ) (at : ℕ) (l : Limit) → AfterTab input at l Form
+pub after_none : (input : List ℕ) (at : ℕ) (l : Limit) → AfterTab input at l (Err Form)
 after_none input at l n next e = absurd_by (cc)
 
-pub after_some : (input : List ℕ) (at : ℕ) (l : Limit) (t : Bool) → l.spelling ≡ Decimal → t ≡ starts 9 (drop at input) → not t ≡ false → (g : Field) → g ≡ read_here input (at + 1) Decimal l.low l.high → AfterTab input at l g
+pub after_some : (input : List ℕ) (at : ℕ) (l : Limit) (t : Bool) → l.spelling ≡ Decimal → t ≡ starts 9 (drop at input) → t ≡ true → (g : Result Field Fault) → g ≡ read_here input (at + 1) Decimal l.low l.high → AfterTab input at l g
 after_some input at l t d te tn g ge n next e = (at_place input at 9 t te tn, rw d (sym ge ∙ e))
 
 -- `reading_in`: M's numbers are decimal
@@ -185,17 +162,13 @@ reading_decimal s n given l e =
     ∙ spelling_is (quantity_at Reading n) s given
     ∙ by_test (eqb n 0) (λ a. rw a) (λ a. by_test (eqb n 1) (λ b. rw (a, b)) (λ b. by_test (eqb n 2) (λ c. rw (a, b, c)) (λ c. rw (a, b, c))))
 
-pub trod_after : {kind : Kind} {s : Group} {input v : List ℕ} {k at : ℕ} → Trod kind s input v k at → k < 34 → {l : Limit} → l ≡ limit_after kind s (take k v) → {g : Field} → AfterTab input at l g
-    → {n next : ℕ} → g ≡ Value n next → Trod kind s input (set v k n) (k + 1) next
+pub trod_after : {kind : Kind} {s : Group} {input v : List ℕ} {k at : ℕ} → Trod kind s input v k at → k < 34 → {l : Limit} → l ≡ limit_after kind s (take k v) → {g : Result Field Fault} → AfterTab input at l g
+    → {n next : ℕ} → g ≡ value n next → Trod kind s input (set v k n) (k + 1) next
 trod_after w h li a {n} {next} e = let p = a n next e in trod_more _ _ _ _ _ _ w h _ li n next p.0 p.1
 
-pub at_inside : (text : List ℕ) (at b : ℕ) (t : Bool) → t ≡ starts b (drop at text) → not t ≡ false → at < length text
+pub at_inside : (text : List ℕ) (at b : ℕ) (t : Bool) → t ≡ starts b (drop at text) → t ≡ true → at < length text
 at_inside text at b t e n = by_lt at (length text) (λ h. h) (λ h. let z = sym (drop_of_length-le text {i = at} h) ∙ at_place text at b t e n in absurd_by (cc))
 
 pub reading_three : (s : Group) (mask : ℕ) → 3 ≡ count_of Reading s mask
 unfolding count_of
 reading_three s mask = refl
-
-pub letter_reading : (c : ℕ) → c ≡ 77 → kind_of c ≡ Known Reading
-unfolding kind_of pick
-letter_reading c e = rw e

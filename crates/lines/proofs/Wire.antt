@@ -1,4 +1,5 @@
 -- THE LAWS OF A LINE: what is accepted is the one spelling of its numbers, and that spelling is read back. Assumes nothing.
+use Rattle.std.specs.Prelude.{Option, Some, None, Err, Ok}
 use Prim.Native.Nat.{ℕ, zero, suc, ◌+◌, ◌≤◌, ◌<◌}
 use mathlib.Core.Path.{◌≡◌, refl, sym, ap, ◌∙◌}
 use mathlib.Core.List.{List, [], ◌∷◌, ◌++◌, append-nil}
@@ -8,7 +9,6 @@ use lib.Dec.{eqb, leb, lit<}
 use lib.ListN.{length, get_or, drop, length-append}
 use borrow.Author.Tests.{eq-eqb, ne_eqb, eqb-true, le-leb}
 use Rattle.units.specs.declared.refusal.Refusal.{Refusal}
-use Rattle.units.specs.declared.refusal.Verdict.TheVariants.{Taken, Refused}
 use Rattle.units.specs.declared.settings.Group.{Group}
 use Rattle.units.specs.Pick.{pick}
 use Rattle.units.specs.Settings.{group_fits}
@@ -25,8 +25,6 @@ use Rattle.fields.proofs.Texts.{text_only, fields_back, tabbed_lacks, lacks_appe
 use Rattle.fields.proofs.Scans.{feed_last}
 use Rattle.lines.specs.declared.kind.Kind.{Kind}
 use Rattle.lines.specs.declared.kind.Kind.TheVariants.{Reading, Query, Reply, Advert, Update, Vote, Setpoints, Due, CollectingEnds, VotingEnds, Floor, Start}
-use Rattle.lines.specs.declared.kind.Found.{Found}
-use Rattle.lines.specs.declared.kind.Found.TheVariants.{Known, Unknown}
 use Rattle.lines.specs.declared.read.Line.{Line}
 use Rattle.lines.specs.Lists.{column}
 use Rattle.lines.specs.Reading.{Got, values, stop, kind_in, line_with, read_values, read_known, read_text, ended_once, read_line}
@@ -38,15 +36,15 @@ use Rattle.lines.proofs.Rows.{row_of, count_range}
 use Rattle.lines.proofs.Spelled.{Fit, values_only, values_back, texts_are}
 
 abbrev pub taken : Message → Line
-taken a = record { verdict = Taken; message = a }
+taken a = record { verdict = Ok tt; message = a }
 
 -- THE LETTER
-letter_test : (c l : ℕ) (k j : Kind) (rest : Found) → letter_of k ≡ l → pick (eqb c l) (Known k) rest ≡ Known j → (rest ≡ Known j → c ≡ letter_of j) → c ≡ letter_of j
+letter_test : (c l : ℕ) (k j : Kind) (rest : Option Kind) → letter_of k ≡ l → pick (eqb c l) (Some k) rest ≡ Some j → (rest ≡ Some j → c ≡ letter_of j) → c ≡ letter_of j
 unfolding pick
 letter_test c l k j rest q =
     by_test (eqb c l) (λ t. rw t (λ e go. let z : k ≡ j = cc in eqb-true c l t ∙ sym q ∙ ap letter_of z)) (λ t. rw t (λ e go. go e))
 
-pub letter_only : (c : ℕ) (j : Kind) → kind_of c ≡ Known j → c ≡ letter_of j
+pub letter_only : (c : ℕ) (j : Kind) → kind_of c ≡ Some j → c ≡ letter_of j
 unfolding kind_of
 letter_only c j e₀ =
     letter_test c 77 Reading j _ refl e₀ (λ e₁. letter_test c 81 Query j _ refl e₁ (λ e₂. letter_test c 82 Reply j _ refl e₂ (λ e₃. letter_test c 65 Advert j _ refl e₃
@@ -54,14 +52,14 @@ letter_only c j e₀ =
     (λ e₈. letter_test c 69 CollectingEnds j _ refl e₈ (λ e₉. letter_test c 86 VotingEnds j _ refl e₉ (λ e₁₀. letter_test c 70 Floor j _ refl e₁₀
     (λ e₁₁. letter_test c 66 Start j _ refl e₁₁ (λ e₁₂. absurd_by (cc)))))))))))))
 
-pub kind_only : (f : List ℕ) (k : Kind) → kind_in f ≡ Known k → f ≡ letter_of k ∷ []
+pub kind_only : (f : List ℕ) (k : Kind) → kind_in f ≡ Some k → f ≡ letter_of k ∷ []
 kind_only [] k e = absurd_by (cc)
 kind_only (c ∷ []) k e = ap (λ (x : ℕ). x ∷ []) (letter_only c k e)
 kind_only (c ∷ d ∷ f) k e = absurd_by (cc)
 
 -- a kind that is read as a message
 abbrev pub Readable : Kind → Type 0
-Readable k = kind_of (letter_of k) ≡ Known k
+Readable k = kind_of (letter_of k) ≡ Some k
 
 -- WHAT IS ACCEPTED
 pub record Accepted (s : Group) (line : List ℕ) (a : Message) : Type 0 where
@@ -73,11 +71,11 @@ pub record Accepted (s : Group) (line : List ℕ) (a : Message) : Type 0 where
   pub spelt : line ≡ line_of kind numbers
   pub message : a ≡ message_of s kind numbers
 
-not_taken : {A : Type 0} (why : Refusal) (m a : Message) → ◌≡◌ {A = Line} (record { verdict = Refused why; message = m }) (taken a) → A
-not_taken why m a e = let z : Refused why ≡ Taken = ap (λ (l : Line). l.verdict) e in absurd_by (cc)
+not_taken : {A : Type 0} (why : Refusal) (m a : Message) → ◌≡◌ {A = Line} (record { verdict = Err why; message = m }) (taken a) → A
+not_taken why m a e = let z : Err why ≡ (Ok tt) = ap (λ (l : Line). l.verdict) e in absurd_by (cc)
 
 module _ (s : Group) (line : List ℕ) (a : Message) (gr : group_fits s ≡ true) where
-  known_only : (text : List ℕ) → line ≡ text ++ (10 ∷ []) → (k : Kind) → kind_in (first_field text) ≡ Known k → (g : Got) → read_values k s (later_fields text) ≡ g → line_with s k g ≡ taken a → Accepted s line a
+  known_only : (text : List ℕ) → line ≡ text ++ (10 ∷ []) → (k : Kind) → kind_in (first_field text) ≡ Some k → (g : Got) → read_values k s (later_fields text) ≡ g → line_with s k g ≡ taken a → Accepted s line a
   unfolding line_of
   known_only text le k ke (stop why) ge e = not_taken why _ a e
   known_only text le k ke (values vs) ge e =
@@ -94,9 +92,9 @@ module _ (s : Group) (line : List ℕ) (a : Message) (gr : group_fits s ≡ true
         message = sym (ap (λ (l : Line). l.message) e);
       }
 
-  text_accepted : (text : List ℕ) → line ≡ text ++ (10 ∷ []) → (f : Found) → kind_in (first_field text) ≡ f → read_known s (later_fields text) f ≡ taken a → Accepted s line a
-  text_accepted text le (Known k) ke e = known_only text le k ke (read_values k s (later_fields text)) refl e
-  text_accepted text le Unknown ke e = not_taken _ _ a e
+  text_accepted : (text : List ℕ) → line ≡ text ++ (10 ∷ []) → (f : Option Kind) → kind_in (first_field text) ≡ f → read_known s (later_fields text) f ≡ taken a → Accepted s line a
+  text_accepted text le (Some k) ke e = known_only text le k ke (read_values k s (later_fields text)) refl e
+  text_accepted text le None ke e = not_taken _ _ a e
 
 pub line_accepted : (s : Group) (line : List ℕ) (a : Message) → read_line s line ≡ taken a → Accepted s line a
 unfolding read_line read_text pick

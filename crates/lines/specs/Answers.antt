@@ -8,7 +8,7 @@ use Rattle.fields.specs.Text.{tab, line_feed}
 use Rattle.lines.specs.declared.settle.Standing.TheVariants.{More}
 use Rattle.lines.specs.declared.settle.Settled.{Settled}
 use Rattle.lines.specs.declared.settle.Settling.{Settling}
-use Rattle.lines.specs.declared.write.Written.{Written}
+use Rattle.lines.specs.Writing.{Written}
 use Rattle.lines.specs.Settling.{settling_start, settle_line, standing_number, standing_values}
 use Rattle.lines.specs.Writing.{written_number, written_values}
 

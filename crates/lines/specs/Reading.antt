@@ -1,8 +1,7 @@
 -- THE READER: every check of a line in document 01's order, and what the line says.
-use Rattle.std.specs.Prelude.{ℕ, ◌+◌, Bool, List, [], ◌∷◌, ◌++◌, eqb, leb, length, get_or, take, drop}
+use Rattle.std.specs.Prelude.{ℕ, ◌+◌, Bool, List, [], ◌∷◌, ◌++◌, eqb, leb, length, get_or, take, drop, Option, Some, None, Result, Ok, Err}
 use Rattle.units.specs.declared.refusal.Refusal.{Refusal}
-use Rattle.units.specs.declared.refusal.Refusal.TheVariants.{Long, Unended, Kind as NoKind, Fields, Form as NoForm, Range as NoRange}
-use Rattle.units.specs.declared.refusal.Verdict.TheVariants.{Taken, Refused}
+use Rattle.units.specs.declared.refusal.Refusal.TheVariants.{Long, Unended, Kind as NoKind, Fields, Range as NoRange}
 use Rattle.units.specs.declared.settings.Group.{Group}
 use Rattle.units.specs.Limits.{line_top}
 use Rattle.units.specs.Pick.{pick}
@@ -10,13 +9,11 @@ use Rattle.units.specs.Refusal.{number_of}
 use Rattle.units.specs.Settings.{group_fits}
 use Rattle.message.specs.declared.head.Head.TheVariants.{Refused as HeadRefused}
 use Rattle.message.specs.Message.{plain}
+use Rattle.fields.specs.declared.field.Fault.{Fault}
 use Rattle.fields.specs.declared.field.Field.{Field}
-use Rattle.fields.specs.declared.field.Field.TheVariants.{Value, Form, Range}
-use Rattle.fields.specs.Field.{read_field}
+use Rattle.fields.specs.Field.{refusal_of, read_field}
 use Rattle.fields.specs.Text.{line_feed, until, first_field, later_fields}
 use Rattle.lines.specs.declared.kind.Kind.{Kind}
-use Rattle.lines.specs.declared.kind.Found.{Found}
-use Rattle.lines.specs.declared.kind.Found.TheVariants.{Known, Unknown}
 use Rattle.lines.specs.declared.read.Line.{Line}
 use Rattle.lines.specs.declared.read.First.{First}
 use Rattle.lines.specs.declared.table.Limit.{Limit}
@@ -32,13 +29,12 @@ pub data Got : Type 0 where
 abbrev pub limit_after : Kind → Group → List ℕ → Limit
 limit_after kind s us = limit_of kind (length us) s (get_or us 1 0)
 
-abbrev pub read_by : Limit → List ℕ → Field
+abbrev pub read_by : Limit → List ℕ → Result Field Fault
 read_by l f = read_field l.spelling l.low l.high 0 f
 
-abbrev pub onward : Field → (ℕ → Got) → Got
-onward (Value n next) go = go n
-onward Form go = stop NoForm
-onward Range go = stop NoRange
+abbrev pub onward : Result Field Fault → (ℕ → Got) → Got
+onward (Ok f) go = go f.n
+onward (Err why) go = stop (refusal_of why)
 
 -- "form and range go field by field from the left, form first"
 unfoldable pub read_all : (List ℕ → Limit) → List ℕ → List (List ℕ) → Got
@@ -59,21 +55,21 @@ read_values kind s fs =
 
 -- the message of a refused line carries the refusal's number
 abbrev pub refused_line : Refusal → Line
-refused_line why = record { verdict = Refused why; message = plain (HeadRefused (number_of why)) }
+refused_line why = record { verdict = Err why; message = plain (HeadRefused (number_of why)) }
 
 abbrev pub line_with : Group → Kind → Got → Line
-line_with s kind (values vs) = record { verdict = Taken; message = message_of s kind vs }
+line_with s kind (values vs) = record { verdict = Ok tt; message = message_of s kind vs }
 line_with s kind (stop why) = refused_line why
 
 -- a first field that is no single letter is unknown too
-abbrev pub kind_in : List ℕ → Found
-kind_in [] = Unknown
+abbrev pub kind_in : List ℕ → Option Kind
+kind_in [] = None
 kind_in (c ∷ []) = kind_of c
-kind_in (c ∷ d ∷ cs) = Unknown
+kind_in (c ∷ d ∷ cs) = None
 
-abbrev pub read_known : Group → List (List ℕ) → Found → Line
-read_known s fs (Known kind) = line_with s kind (read_values kind s fs)
-read_known s fs Unknown = refused_line NoKind
+abbrev pub read_known : Group → List (List ℕ) → Option Kind → Line
+read_known s fs (Some kind) = line_with s kind (read_values kind s fs)
+read_known s fs None = refused_line NoKind
 
 unfoldable pub read_text : Group → List ℕ → Line
 read_text s text = read_known s (later_fields text) (kind_in (first_field text))

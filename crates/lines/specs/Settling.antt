@@ -1,7 +1,7 @@
 -- "Settings are the first 2 + m lines": how they are read line by line, and refusal 15.
-use Rattle.std.specs.Prelude.{ℕ, ◌+◌, ◌-◌, Bool, false, List, [], ◌∷◌, eqb, leb, ltb, length, get_or, set, replicate}
+use Rattle.std.specs.Prelude.{ℕ, ◌+◌, ◌-◌, Bool, false, List, [], ◌∷◌, eqb, leb, ltb, length, get_or, set, replicate, Result, Ok, Err}
 use Rattle.units.specs.declared.refusal.Refusal.{Refusal}
-use Rattle.units.specs.declared.refusal.Refusal.TheVariants.{Long, Unended, Kind as NoKind, Fields, Form as NoForm, Range as NoRange, Settings as NoSettings}
+use Rattle.units.specs.declared.refusal.Refusal.TheVariants.{Long, Unended, Kind as NoKind, Fields, Form as NoForm, Settings as NoSettings}
 use Rattle.units.specs.declared.settings.Group.{Group}
 use Rattle.units.specs.declared.settings.Numbers.{Numbers}
 use Rattle.units.specs.Limits.{line_top, runs_top}
@@ -9,8 +9,9 @@ use Rattle.units.specs.Pick.{pick}
 use Rattle.units.specs.Refusal.{number_of, values_of}
 use Rattle.message.specs.declared.certificate.Certificate.{Certificate}
 use Rattle.message.specs.declared.settings.Settings.{Settings}
+use Rattle.fields.specs.declared.field.Fault.{Fault}
 use Rattle.fields.specs.declared.field.Field.{Field}
-use Rattle.fields.specs.declared.field.Field.TheVariants.{Value, Form, Range}
+use Rattle.fields.specs.Field.{refusal_of}
 use Rattle.fields.specs.Certificate.{is_certificate}
 use Rattle.fields.specs.Text.{line_feed, until, first_field, later_fields}
 use Rattle.lines.specs.declared.kind.Kind.{Kind}
@@ -91,10 +92,9 @@ kept_values st go (stop why) = stopped st why
 abbrev pub settle_plain : Settling → Kind → (List ℕ → Settings) → List (List ℕ) → Settled
 settle_plain st kind go fs = kept_values st go (read_values kind any_group fs)
 
-abbrev pub after_field : Settling → Field → (ℕ → Settled) → Settled
-after_field st (Value n next) go = go n
-after_field st Form go = stopped st NoForm
-after_field st Range go = stopped st NoRange
+abbrev pub after_field : Settling → Result Field Fault → (ℕ → Settled) → Settled
+after_field st (Ok f) go = go f.n
+after_field st (Err why) go = stopped st (refusal_of why)
 
 -- four fields, from the left: "a run out of turn 6", "certificate (1 to 16 bytes 0x21..0x7E, else 5)"
 unfoldable pub settle_weight : Settling → List (List ℕ) → ℕ → Settled

@@ -1,9 +1,9 @@
 -- What the functions promise each other that read a line straight on.
-use Rattle.std.specs.Prelude.{ℕ, ◌+◌, ◌≤◌, ◌≡◌, List, [], ◌∷◌, length, get_or, take, drop}
+use Rattle.std.specs.Prelude.{ℕ, ◌+◌, ◌≤◌, ◌≡◌, List, [], ◌∷◌, length, get_or, take, drop, Result}
 use Rattle.units.specs.declared.settings.Group.{Group}
+use Rattle.fields.specs.declared.field.Fault.{Fault}
 use Rattle.fields.specs.declared.field.Field.{Field}
-use Rattle.fields.specs.declared.field.Field.TheVariants.{Value}
-use Rattle.fields.specs.Field.{read_here}
+use Rattle.fields.specs.Field.{value, read_here}
 use Rattle.fields.specs.Text.{tab, tabbed}
 use Rattle.lines.specs.declared.kind.Kind.{Kind}
 use Rattle.lines.specs.declared.table.Limit.{Limit}
@@ -21,5 +21,5 @@ pub record Trod (kind : Kind) (s : Group) (input v : List ℕ) (k at : ℕ) : Ty
   pub rest : Rest v k
 
 -- a number that was read stands after a tab
-abbrev pub AfterTab : List ℕ → ℕ → Limit → Field → Type 0
-AfterTab input at l r = (n next : ℕ) → r ≡ Value n next → (drop at input ≡ tab ∷ drop (at + 1) input) × (read_here input (at + 1) l.spelling l.low l.high ≡ Value n next)
+abbrev pub AfterTab : List ℕ → ℕ → Limit → Result Field Fault → Type 0
+AfterTab input at l r = (n next : ℕ) → r ≡ value n next → (drop at input ≡ tab ∷ drop (at + 1) input) × (read_here input (at + 1) l.spelling l.low l.high ≡ value n next)

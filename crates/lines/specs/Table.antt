@@ -1,5 +1,5 @@
 -- The table of the lines, from document 01's list of lines and its table of quantities.
-use Rattle.std.specs.Prelude.{ℕ, ◌+◌, ◌-◌, ◌*◌, ◌%◌, min, Bool, true, false, eqb}
+use Rattle.std.specs.Prelude.{ℕ, ◌+◌, ◌-◌, ◌*◌, ◌%◌, min, Bool, true, false, eqb, Option, Some, None}
 use Rattle.std.specs.Int.Count.{ones}
 use Rattle.units.specs.declared.settings.Group.{Group}
 use Rattle.units.specs.Limits.{controllers_top, runs_top, label_top, raw_top, factor_low, factor_top, weight_top, noise_top, first_top, number_top}
@@ -10,8 +10,6 @@ use Rattle.fields.specs.declared.spelling.Spelling.{Spelling}
 use Rattle.fields.specs.declared.spelling.Spelling.TheVariants.{Decimal, Hex4, Hex16, Factor as InFactor}
 use Rattle.lines.specs.declared.kind.Kind.{Kind}
 use Rattle.lines.specs.declared.kind.Kind.TheVariants.{Reading, Query, Reply, Advert, Update, Vote, Setpoints, Due, CollectingEnds, VotingEnds, Floor, Start, Refused, Sizes, Filter, Run}
-use Rattle.lines.specs.declared.kind.Found.{Found}
-use Rattle.lines.specs.declared.kind.Found.TheVariants.{Known, Unknown}
 use Rattle.lines.specs.declared.table.Quantity.{Quantity}
 use Rattle.lines.specs.declared.table.Quantity.TheVariants.{Sender, RunNumber, Round, State, Base, Mask, Raw, X, Variance, Target, Number, Controllers, Runs, Noise, First, Turn, Factor, Weight}
 use Rattle.lines.specs.declared.table.Limit.{Limit}
@@ -36,12 +34,12 @@ letter_of Filter = 78
 letter_of Run = 75
 
 -- the kinds that are read as messages: "After the settings a line X, G, N or K is 3"
-unfoldable pub kind_of : ℕ → Found
+unfoldable pub kind_of : ℕ → Option Kind
 unfolding pick
 kind_of c =
-    pick (eqb c 77) (Known Reading) (pick (eqb c 81) (Known Query) (pick (eqb c 82) (Known Reply) (pick (eqb c 65) (Known Advert)
-    (pick (eqb c 85) (Known Update) (pick (eqb c 68) (Known Vote) (pick (eqb c 83) (Known Setpoints) (pick (eqb c 67) (Known Due)
-    (pick (eqb c 69) (Known CollectingEnds) (pick (eqb c 86) (Known VotingEnds) (pick (eqb c 70) (Known Floor) (pick (eqb c 66) (Known Start) Unknown)))))))))))
+    pick (eqb c 77) (Some Reading) (pick (eqb c 81) (Some Query) (pick (eqb c 82) (Some Reply) (pick (eqb c 65) (Some Advert)
+    (pick (eqb c 85) (Some Update) (pick (eqb c 68) (Some Vote) (pick (eqb c 83) (Some Setpoints) (pick (eqb c 67) (Some Due)
+    (pick (eqb c 69) (Some CollectingEnds) (pick (eqb c 86) (Some VotingEnds) (pick (eqb c 70) (Some Floor) (pick (eqb c 66) (Some Start) None)))))))))))
 
 -- a row of four, the last of which stands at every later place too
 abbrev pub alternate : Bool → Quantity → Quantity → Quantity

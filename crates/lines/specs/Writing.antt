@@ -1,5 +1,5 @@
 -- THE WRITER: the one spelling of each line, and the lent buffer after it.
-use Rattle.std.specs.Prelude.{ℕ, Bool, ◌&&◌, List, [], ◌∷◌, ◌++◌, ltb, length, get_or, drop}
+use Rattle.std.specs.Prelude.{ℕ, Bool, ◌&&◌, List, [], ◌∷◌, ◌++◌, ltb, length, get_or, drop, Result, Ok, Err}
 use Rattle.units.specs.declared.refusal.Refusal.{Refusal}
 use Rattle.units.specs.declared.refusal.Refusal.TheVariants.{Range, Room}
 use Rattle.units.specs.declared.settings.Group.{Group}
@@ -13,11 +13,13 @@ use Rattle.fields.specs.Put.{written}
 use Rattle.fields.specs.Text.{line_feed, tabbed}
 use Rattle.lines.specs.declared.kind.Kind.{Kind}
 use Rattle.lines.specs.declared.kind.Kind.TheVariants.{Refused as OfRefused}
-use Rattle.lines.specs.declared.write.Written.{Written}
-use Rattle.lines.specs.declared.write.Written.TheVariants.{Done, Refused}
 use Rattle.lines.specs.Lists.{column}
 use Rattle.lines.specs.Table.{letter_of, quantity_at, spelling_of}
 use Rattle.lines.specs.Values.{kind_is, numbers_of}
+
+-- how many bytes were written, or why none
+abbrev pub Written : Type 0
+Written = Result ℕ Refusal
 
 -- the number at a place, in its one spelling
 abbrev pub spelled_at : Kind → List ℕ → ℕ → List ℕ
@@ -39,7 +41,7 @@ refusal_line why = line_of OfRefused (number_of why ∷ [])
 
 -- 16: "the lent buffer is shorter than the line to write"
 abbrev pub answer_of : List ℕ → List ℕ → Written
-answer_of bytes buf = pick (ltb (length buf) (length bytes)) (Refused Room) (Done (length bytes))
+answer_of bytes buf = pick (ltb (length buf) (length bytes)) (Err Room) (Ok (length bytes))
 
 -- "touches no byte past its line", and none at all on a refusal
 abbrev pub buffer_of : List ℕ → List ℕ → List ℕ
@@ -47,7 +49,7 @@ buffer_of bytes buf = pick (ltb (length buf) (length bytes)) buf (bytes ++ drop 
 
 -- "The writer checks 6 before 16"
 unfoldable pub write_answer : Bool → List ℕ → List ℕ → Written
-write_answer fit bytes buf = pick fit (answer_of bytes buf) (Refused Range)
+write_answer fit bytes buf = pick fit (answer_of bytes buf) (Err Range)
 
 unfoldable pub write_buffer : Bool → List ℕ → List ℕ → List ℕ
 write_buffer fit bytes buf = pick fit (buffer_of bytes buf) buf
@@ -58,9 +60,9 @@ plain_fits s head = is_plain head && message_fits s (plain head)
 
 -- the number of what the writer answers, 0 where it is done, and the values that go with it
 abbrev pub written_number : Written → ℕ
-written_number (Done len) = 0
-written_number (Refused why) = number_of why
+written_number (Ok len) = 0
+written_number (Err why) = number_of why
 
 abbrev pub written_values : Written → List ℕ
-written_values (Done len) = len ∷ []
-written_values (Refused why) = values_of why
+written_values (Ok len) = len ∷ []
+written_values (Err why) = values_of why

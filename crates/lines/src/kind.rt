@@ -3,7 +3,7 @@ ghost use Rattle.std.specs.Prelude.{◌≡◌};
 ghost use Rattle.lines.specs.Table.{kind_of, letter_of};
 
 // M Q R A U D S C E V F B X, and the settings' G N K.
-#[derive(Clone, Copy)]
+#[derive(Clone, Copy, Debug, PartialEq, Eq)]
 pub enum Kind {
     Reading,
     Query,
@@ -21,13 +21,6 @@ pub enum Kind {
     Sizes,
     Filter,
     Run,
-}
-
-// What the letter of a line names here.
-#[derive(Clone, Copy)]
-pub enum Found {
-    Known(Kind),
-    Unknown,
 }
 
 impl Kind {
@@ -56,22 +49,23 @@ impl Kind {
 }
 
 // The kind of a message that can be read: X, G, N and K are none.
-pub(crate) fn kind_of(letter: u8) -> Found
+#[tactic(auto, unfolding(crate::specs::Table::kind_of))]
+pub(crate) fn kind_of(letter: u8) -> Option<Kind>
     ensures { result ≡ kind_of letter }
 {
     match letter {
-        b'M' => Found::Known(Kind::Reading),
-        b'Q' => Found::Known(Kind::Query),
-        b'R' => Found::Known(Kind::Reply),
-        b'A' => Found::Known(Kind::Advert),
-        b'U' => Found::Known(Kind::Update),
-        b'D' => Found::Known(Kind::Vote),
-        b'S' => Found::Known(Kind::Setpoints),
-        b'C' => Found::Known(Kind::Due),
-        b'E' => Found::Known(Kind::CollectingEnds),
-        b'V' => Found::Known(Kind::VotingEnds),
-        b'F' => Found::Known(Kind::Floor),
-        b'B' => Found::Known(Kind::Start),
-        _ => Found::Unknown,
+        b'M' => Some(Kind::Reading),
+        b'Q' => Some(Kind::Query),
+        b'R' => Some(Kind::Reply),
+        b'A' => Some(Kind::Advert),
+        b'U' => Some(Kind::Update),
+        b'D' => Some(Kind::Vote),
+        b'S' => Some(Kind::Setpoints),
+        b'C' => Some(Kind::Due),
+        b'E' => Some(Kind::CollectingEnds),
+        b'V' => Some(Kind::VotingEnds),
+        b'F' => Some(Kind::Floor),
+        b'B' => Some(Kind::Start),
+        _ => None,
     }
 }

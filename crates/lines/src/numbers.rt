@@ -1,5 +1,5 @@
 // The numbers of a message's line, in the order of the line.
-ghost use Rattle.std.specs.Prelude.{◌≡◌, [], ◌∷◌, ◌++◌, ◌+◌, ◌*◌, ◌≤◌, length, take, true};
+ghost use Rattle.std.specs.Prelude.{◌≡◌, ℕ, List, [], ◌∷◌, ◌++◌, ◌+◌, ◌*◌, ◌<◌, ◌≤◌, length, take, true};
 ghost use Rattle.message.specs.Message.{message_fits};
 ghost use Rattle.lines.specs.Lists.{joined};
 ghost use Rattle.lines.specs.Values.{floats_of, head_values, kind_is, raw_of, target_of, numbers_of};
@@ -7,197 +7,169 @@ ghost use Rattle.lines.specs.Values.{floats_of, head_values, kind_is, raw_of, ta
 use crate::kind::Kind;
 use floats::bits::bits_of;
 use message::{Head, Message};
-use units::limits::RUNS;
+use std::marker::Model;
 use units::mask::has;
 use units::{Estimate, Group};
 
-// The first n of these numbers count.
-#[derive(Clone, Copy)]
+// The numbers of a line, 34 at the most: the first n places count.
+#[derive(Drop)]
 pub struct LineNumbers {
-    pub n: usize,
-    pub v: [u64; 34],
+    n: usize,
+    v: [u64; 34],
 }
 
+// Clauses see the numbers.
+impl Model for LineNumbers {
+    ghost Value = { List ℕ };
+
+    ghost view = { λ s. take s.n s.v };
+
+    ghost invariant = { λ s. s.n ≤ 34 };
+}
+
+impl LineNumbers {
+    // The numbers of a slice.
+    pub(crate) fn of(numbers: &[u64]) -> LineNumbers
+        requires { length numbers.now ≤ 34 }
+        ensures { result ≡ numbers.now }
+    {
+        let n = numbers.len();
+        let mut v = [0; 34];
+        v[..n].copy_from_slice(numbers);
+        LineNumbers { n, v }
+    }
+
+    // Adds a number.
+    fn push(&mut self, number: u64)
+        requires { length self.old < 34 }
+        ensures { self.new ≡ self.old ++ (number ∷ []) }
+    {
+        self.v[self.n] = number;
+        self.n += 1;
+    }
+
+    pub(crate) fn as_slice(&self) -> &[u64]
+        ensures { (result.now ≡ self.now) × (length self.now ≤ 34) }
+    {
+        &self.v[..self.n]
+    }
+
+    // Adds the readings of a mask's runs, lowest run first.
+    fn push_readings(&mut self, mask: u32, readings: &[u32; 16])
+        requires { length self.old ≤ 4 }
+        ensures { self.new ≡ self.old ++ joined (raw_of mask readings.now) 16 }
+    {
+        if mask == 0 {
+            return;
+        }
+        for (i, raw) in readings.iter().enumerate() {
+            if has(mask, i) {
+                self.push(u64::from(*raw));
+            }
+        }
+    }
+
+    // Adds the floats of m runs.
+    fn push_estimates(&mut self, m: usize, estimates: &[Estimate; 16])
+        requires { (length self.old + 2 * m ≤ 34) × (m ≤ 16) }
+        ensures { self.new ≡ self.old ++ joined (floats_of estimates.now) m }
+    {
+        for e in &estimates[..m] {
+            self.push(bits_of(e.x));
+            self.push(bits_of(e.variance));
+        }
+    }
+
+    // Adds the targets of m runs.
+    fn push_targets(&mut self, m: usize, targets: &[f64; 16])
+        requires { (length self.old + m ≤ 34) × (m ≤ 16) }
+        ensures { self.new ≡ self.old ++ joined (target_of targets.now) m }
+    {
+        for target in &targets[..m] {
+            self.push(bits_of(*target));
+        }
+    }
+}
+
+#[tactic(auto, unfolding(crate::specs::Values::kind_is))]
 pub(crate) fn kind_is(head: Head) -> Kind
     ensures { result ≡ kind_is head }
 {
     match head {
-        Head::Reading {
-            label: _,
-            run: _,
-            raw: _,
-        } => Kind::Reading,
-        Head::Query {
-            sender: _,
-            label: _,
-            mask: _,
-        } => Kind::Query,
-        Head::Reply {
-            sender: _,
-            label: _,
-            mask: _,
-        } => Kind::Reply,
-        Head::Advert {
-            sender: _,
-            state: _,
-        } => Kind::Advert,
-        Head::Update {
-            sender: _,
-            state: _,
-        } => Kind::Update,
-        Head::Vote {
-            sender: _,
-            label: _,
-            digest: _,
-        } => Kind::Vote,
-        Head::Setpoints {
-            sender: _,
-            label: _,
-            digest: _,
-        } => Kind::Setpoints,
-        Head::Due { label: _ } => Kind::Due,
-        Head::CollectingEnds { label: _ } => Kind::CollectingEnds,
-        Head::VotingEnds { label: _ } => Kind::VotingEnds,
-        Head::Floor { label: _ } => Kind::Floor,
-        Head::Start { own: _, floor: _ } => Kind::Start,
-        Head::Refused { number: _ } => Kind::Refused,
+        Head::Reading { .. } => Kind::Reading,
+        Head::Query { .. } => Kind::Query,
+        Head::Reply { .. } => Kind::Reply,
+        Head::Advert { .. } => Kind::Advert,
+        Head::Update { .. } => Kind::Update,
+        Head::Vote { .. } => Kind::Vote,
+        Head::Setpoints { .. } => Kind::Setpoints,
+        Head::Due { .. } => Kind::Due,
+        Head::CollectingEnds { .. } => Kind::CollectingEnds,
+        Head::VotingEnds { .. } => Kind::VotingEnds,
+        Head::Floor { .. } => Kind::Floor,
+        Head::Start { .. } => Kind::Start,
+        Head::Refused { .. } => Kind::Refused,
     }
-}
-
-fn wide(n: u32) -> u64
-    ensures { result ≡ n }
-{
-    n as u64
-}
-
-// The first n of four numbers.
-pub(crate) fn four(n: usize, a: u64, b: u64, c: u64, d: u64) -> LineNumbers
-    requires { n ≤ 4 }
-    ensures { (result.n ≡ n) × (take n result.v ≡ take n (a ∷ b ∷ c ∷ d ∷ [])) × (length result.v ≡ 34) }
-{
-    let mut v = [0u64; 34];
-    v[0] = a;
-    v[1] = b;
-    v[2] = c;
-    v[3] = d;
-    LineNumbers { n, v }
 }
 
 // The numbers of a head.
+#[tactic(auto, unfolding(crate::specs::Values::head_values))]
 pub(crate) fn head_numbers(head: Head) -> LineNumbers
-    ensures { (result.n ≡ length (head_values head)) × (take result.n result.v ≡ head_values head) × (length result.v ≡ 34) }
+    ensures { result ≡ head_values head }
 {
     match head {
-        Head::Reading { label, run, raw } => four(3, label.0 as u64, run as u64, raw as u64, 0),
+        Head::Reading { label, run, raw } => LineNumbers::of(&[
+            u64::from(label.0),
+            run as u64,
+            u64::from(raw),
+        ]),
         Head::Query {
             sender,
             label,
             mask,
-        } => four(3, sender as u64, label.0 as u64, mask as u64, 0),
-        Head::Reply {
+        }
+        | Head::Reply {
             sender,
             label,
             mask,
-        } => four(3, sender as u64, label.0 as u64, mask as u64, 0),
-        Head::Advert { sender, state } => four(2, sender as u64, state.0 as u64, 0, 0),
-        Head::Update { sender, state } => four(2, sender as u64, state.0 as u64, 0, 0),
+        } => LineNumbers::of(&[sender as u64, u64::from(label.0), u64::from(mask)]),
+        Head::Advert { sender, state } | Head::Update { sender, state } => LineNumbers::of(&[
+            sender as u64,
+            u64::from(state.0),
+        ]),
         Head::Vote {
             sender,
             label,
             digest,
-        } => four(
-            4,
-            sender as u64,
-            label.0 as u64,
-            digest.state.0 as u64,
-            digest.mask as u64,
-        ),
-        Head::Setpoints {
+        }
+        | Head::Setpoints {
             sender,
             label,
             digest,
-        } => four(
-            4,
+        } => LineNumbers::of(&[
             sender as u64,
-            label.0 as u64,
-            digest.state.0 as u64,
-            digest.mask as u64,
-        ),
-        Head::Due { label } => four(1, label.0 as u64, 0, 0, 0),
-        Head::CollectingEnds { label } => four(1, label.0 as u64, 0, 0, 0),
-        Head::VotingEnds { label } => four(1, label.0 as u64, 0, 0, 0),
-        Head::Floor { label } => four(1, label.0 as u64, 0, 0, 0),
-        Head::Start { own, floor } => four(2, own as u64, floor.0 as u64, 0, 0),
-        Head::Refused { number } => four(1, number as u64, 0, 0, 0),
+            u64::from(label.0),
+            u64::from(digest.state.0),
+            u64::from(digest.mask),
+        ]),
+        Head::Due { label }
+        | Head::CollectingEnds { label }
+        | Head::VotingEnds { label }
+        | Head::Floor { label } => LineNumbers::of(&[u64::from(label.0)]),
+        Head::Start { own, floor } => LineNumbers::of(&[own as u64, u64::from(floor.0)]),
+        Head::Refused { number } => LineNumbers::of(&[u64::from(number)]),
     }
-}
-
-// Adds the readings of a mask's runs, lowest run first.
-fn with_readings(so: LineNumbers, mask: u32, readings: [u32; 16]) -> LineNumbers
-    requires { (so.n ≤ 4) × (length so.v ≡ 34) }
-    ensures { (result.n ≡ length (take so.n so.v ++ joined (raw_of mask readings) 16)) × (take result.n result.v ≡ take so.n so.v ++ joined (raw_of mask readings) 16) × (length result.v ≡ 34) }
-{
-    if mask == 0 {
-        return so;
-    }
-    let mut v = so.v;
-    let mut at = so.n;
-    let mut i: usize = 0;
-    while i < RUNS {
-        if has(mask, i) {
-            v[at] = wide(readings[i]);
-            at += 1;
-        }
-        i += 1;
-    }
-    LineNumbers { n: at, v }
-}
-
-// Adds the floats of m runs.
-fn with_estimates(so: LineNumbers, m: usize, estimates: [Estimate; 16]) -> LineNumbers
-    requires { (so.n + 2 * m ≤ 34) × (m ≤ 16) × (length so.v ≡ 34) }
-    ensures { (result.n ≡ so.n + 2 * m) × (take result.n result.v ≡ take so.n so.v ++ joined (floats_of estimates) m) × (length result.v ≡ 34) }
-{
-    let mut v = so.v;
-    let mut at = so.n;
-    let mut i: usize = 0;
-    while i < m {
-        let e = estimates[i];
-        v[at] = bits_of(e.x);
-        v[at + 1] = bits_of(e.variance);
-        at += 2;
-        i += 1;
-    }
-    LineNumbers { n: at, v }
-}
-
-// Adds the targets of m runs.
-fn with_targets(so: LineNumbers, m: usize, targets: [f64; 16]) -> LineNumbers
-    requires { (so.n + m ≤ 34) × (m ≤ 16) × (length so.v ≡ 34) }
-    ensures { (result.n ≡ so.n + m) × (take result.n result.v ≡ take so.n so.v ++ joined (target_of targets) m) × (length result.v ≡ 34) }
-{
-    let mut v = so.v;
-    let mut at = so.n;
-    let mut i: usize = 0;
-    while i < m {
-        v[at] = bits_of(targets[i]);
-        at += 1;
-        i += 1;
-    }
-    LineNumbers { n: at, v }
 }
 
 // All numbers of a message in range.
 pub(crate) fn numbers_of(message: Message, group: Group) -> LineNumbers
     requires { message_fits group message ≡ true }
-    ensures { (take result.n result.v ≡ numbers_of group message) × (result.n ≤ 34) × (length result.v ≡ 34) }
+    ensures { result ≡ numbers_of group message }
 {
-    let head = message.head;
-    let readings = message.readings;
-    let estimates = message.estimates;
-    let targets = message.targets;
-    let carried = head.carries(group);
-    let first = with_readings(head_numbers(head), carried.readings, readings);
-    let second = with_estimates(first, carried.estimates, estimates);
-    with_targets(second, carried.targets, targets)
+    let carried = message.head.carries(group);
+    let mut numbers = head_numbers(message.head);
+    numbers.push_readings(carried.readings, &message.readings);
+    numbers.push_estimates(carried.estimates, &message.estimates);
+    numbers.push_targets(carried.targets, &message.targets);
+    numbers
 }

@@ -1,13 +1,12 @@
 // THE READER: what a line says, or why it is refused.
-ghost use Rattle.std.specs.Prelude.{◌≡◌, true, ◌<◌, length, get_or};
+ghost use Rattle.std.specs.Prelude.{◌≡◌, true, ℕ, ◌<◌, length, get_or};
 ghost use Rattle.units.specs.Settings.{group_fits};
 ghost use Rattle.fields.specs.Text.{first_field, later_fields, scanned, tabs_in};
-ghost use Rattle.lines.specs.declared.kind.Found.{Found};
-ghost use Rattle.lines.specs.declared.kind.Kind.{Kind};
-ghost use Rattle.lines.specs.Table.{kind_of};
+ghost use Rattle.lines.specs.Straight.{Trod};
+ghost use Rattle.lines.specs.Table.{count_of, kind_of};
 ghost use Rattle.lines.specs.Reading.{first_line, first_of, kind_in, line_with, read_line, read_text, read_values, refused_line};
 
-use crate::kind::{Found, Kind, kind_of};
+use crate::kind::{Kind, kind_of};
 use crate::straight::{numbers_in, reading_in};
 use crate::typed::message_of;
 use crate::values::read_values;
@@ -28,7 +27,7 @@ fn refused(why: Refusal) -> Line
     ensures { result ≡ refused_line why }
 {
     Line {
-        verdict: Verdict::Refused(why),
+        verdict: Err(why),
         message: Message::plain(Head::Refused {
             number: why.number(),
         }),
@@ -36,16 +35,16 @@ fn refused(why: Refusal) -> Line
 }
 
 // The kind that a text's first field names.
-fn kind_in(text: &[u8]) -> Found
+fn kind_in(text: &[u8]) -> Option<Kind>
     ensures { result ≡ kind_in (first_field text.now) }
 {
     if ends_at(text, 0) {
-        return Found::Unknown;
+        return None;
     }
     if ends_at(text, 1) {
         return kind_of(text[0]);
     }
-    Found::Unknown
+    None
 }
 
 // The line of a known kind, with its fields counted.
@@ -55,11 +54,11 @@ fn read_known(text: &[u8], kind: Kind, group: Group, fields: usize) -> Line
 {
     let mut v = [0u64; 34];
     match read_values(text, kind, group, &mut v, fields) {
-        Verdict::Taken => Line {
-            verdict: Verdict::Taken,
+        Ok(()) => Line {
+            verdict: Ok(()),
             message: message_of(kind, group, &v),
         },
-        Verdict::Refused(why) => refused(why),
+        Err(why) => refused(why),
     }
 }
 
@@ -68,8 +67,8 @@ fn read_text(text: &[u8], group: Group, fields: usize) -> Line
     ensures { result ≡ read_text group text.now }
 {
     match kind_in(text) {
-        Found::Known(kind) => read_known(text, kind, group, fields),
-        Found::Unknown => refused(Refusal::Kind),
+        Some(kind) => read_known(text, kind, group, fields),
+        None => refused(Refusal::Kind),
     }
 }
 
@@ -133,53 +132,20 @@ fn read_with_care(input: &[u8], group: Group) -> First
     }
 }
 
-// The same, read straight on where all is as it should be.
-fn read_straight(input: &[u8], kind: Kind, group: Group) -> First
-    requires { (group_fits group ≡ true) × (0 < length input.now) × (kind_of (get_or input.now 0 0) ≡ Found.Known kind) }
+// The same, of a line whose numbers were read straight on to a place, where it has to end; it is read again with care where they were not, or where it goes on.
+fn read_to(input: &[u8], kind: Kind, group: Group, v: &[u64; 34], trail: Option<usize>) -> First
+    requires { (group_fits group ≡ true) × (0 < length input.now) × (kind_of (get_or input.now 0 0) ≡ Some kind) × ((at : ℕ) → trail ≡ Some at → Trod kind group input.now v.now (count_of kind group (get_or v.now 2 0)) at) }
     ensures { result ≡ first_line group input.now }
 {
-    let mut v = [0u64; 34];
-    let trail = numbers_in(input, kind, group, &mut v);
-    let good = trail.good;
-    let at = trail.at;
-    if !good {
-        return read_with_care(input, group);
-    }
-    if !is_at(input, at, LINE_FEED) {
-        return read_with_care(input, group);
-    }
-    let message = message_of(kind, group, &v);
-    First {
-        line: Line {
-            verdict: Verdict::Taken,
-            message,
+    match trail {
+        Some(at) if is_at(input, at, LINE_FEED) => First {
+            line: Line {
+                verdict: Ok(()),
+                message: message_of(kind, group, v),
+            },
+            feed: at,
         },
-        feed: at,
-    }
-}
-
-// A line M, straight on.
-fn read_reading(input: &[u8], group: Group) -> First
-    requires { (group_fits group ≡ true) × (0 < length input.now) × (kind_of (get_or input.now 0 0) ≡ Found.Known Kind.Reading) }
-    ensures { result ≡ first_line group input.now }
-{
-    let mut v = [0u64; 34];
-    let trail = reading_in(input, group, &mut v);
-    let good = trail.good;
-    let at = trail.at;
-    if !good {
-        return read_with_care(input, group);
-    }
-    if !is_at(input, at, LINE_FEED) {
-        return read_with_care(input, group);
-    }
-    let message = message_of(Kind::Reading, group, &v);
-    First {
-        line: Line {
-            verdict: Verdict::Taken,
-            message,
-        },
-        feed: at,
+        _ => read_with_care(input, group),
     }
 }
 
@@ -187,18 +153,19 @@ fn read_reading(input: &[u8], group: Group) -> First
 pub fn read_first(input: &[u8], group: Group) -> First
     ensures { result ≡ first_line group input.now }
 {
-    if !group.in_range() {
+    if !group.in_range() || input.is_empty() {
         return read_with_care(input, group);
     }
-    if input.len() == 0 {
-        return read_with_care(input, group);
-    }
-    let letter = input[0];
-    if letter == b'M' {
-        return read_reading(input, group);
-    }
-    match kind_of(letter) {
-        Found::Known(kind) => read_straight(input, kind, group),
-        Found::Unknown => read_with_care(input, group),
+    let mut v = [0u64; 34];
+    match kind_of(input[0]) {
+        Some(Kind::Reading) => {
+            let trail = reading_in(input, group, &mut v);
+            read_to(input, Kind::Reading, group, &v, trail)
+        }
+        Some(kind) => {
+            let trail = numbers_in(input, kind, group, &mut v);
+            read_to(input, kind, group, &v, trail)
+        }
+        None => read_with_care(input, group),
     }
 }

@@ -7,7 +7,6 @@ ghost use Rattle.lines.specs.Settings.{bytes_of, run_line, setting_fits, setting
 ghost use Rattle.lines.specs.Writing.{answer_of, buffer_of, write_answer, write_buffer};
 
 use crate::kind::Kind;
-use crate::numbers::four;
 use crate::settle::turn_of;
 use crate::write::{Written, put_line};
 use fields::text::{LINE_FEED, TAB};
@@ -52,8 +51,8 @@ fn run_width(run: usize, len: usize, factor: u32, weight: u32) -> usize
     ensures { (result ≡ (1 + length (written Spelling.Decimal run)) + (1 + len) + ((1 + length (written Spelling.Factor factor)) + (1 + length (written Spelling.Decimal weight)))) × (result ≤ 68) }
 {
     let first = width(Spelling::Decimal, run as u64);
-    let third = width(Spelling::Factor, factor as u64);
-    let last = width(Spelling::Decimal, weight as u64);
+    let third = width(Spelling::Factor, u64::from(factor));
+    let last = width(Spelling::Decimal, u64::from(weight));
     (1 + first) + (1 + len) + ((1 + third) + (1 + last))
 }
 
@@ -71,8 +70,8 @@ fn put_share(buf: &mut [u8], at: usize, factor: u32, weight: u32) -> usize
     requires { at + ((1 + length (written Spelling.Factor factor)) + (1 + length (written Spelling.Decimal weight))) ≤ length buf.old }
     ensures { (result ≡ at + length (share factor weight)) × (buf.new ≡ sets buf.old at (share factor weight)) }
 {
-    let next = put_field(buf, at, Spelling::Factor, factor as u64);
-    put_field(buf, next, Spelling::Decimal, weight as u64)
+    let next = put_field(buf, at, Spelling::Factor, u64::from(factor));
+    put_field(buf, next, Spelling::Decimal, u64::from(weight))
 }
 
 // Puts the line K of a run.
@@ -88,13 +87,13 @@ fn put_run(
 {
     let len = 2 + run_width(run, certificate.len, factor, weight);
     if buf.len() < len {
-        return Written::Refused(Refusal::Room);
+        return Err(Refusal::Room);
     }
     buf[0] = b'K';
     let at = put_who(buf, run, certificate);
     let end = put_share(buf, at, factor, weight);
     buf[end] = LINE_FEED;
-    Written::Done { len }
+    Ok(len)
 }
 
 // Puts line k of settings in range.
@@ -104,14 +103,19 @@ fn put_setting(settings: Settings, k: u32, buf: &mut [u8]) -> Written
 {
     let numbers = settings.numbers;
     if k == 1 {
-        let sizes = four(2, numbers.group.g as u64, numbers.group.m as u64, 0, 0);
-        let v = sizes.v;
-        return put_line(buf, Kind::Sizes, &v, 2);
+        let group = numbers.group;
+        return put_line(buf, Kind::Sizes, &[group.g as u64, group.m as u64]);
     }
     if k == 2 {
-        let filter = four(3, numbers.q as u64, numbers.r as u64, numbers.p as u64, 0);
-        let v = filter.v;
-        return put_line(buf, Kind::Filter, &v, 3);
+        return put_line(
+            buf,
+            Kind::Filter,
+            &[
+                u64::from(numbers.q),
+                u64::from(numbers.r),
+                u64::from(numbers.p),
+            ],
+        );
     }
     let run = turn_of(k);
     let certificate = settings.certificates[run];
@@ -129,7 +133,7 @@ pub fn write_setting(settings: Settings, k: u32, buf: &mut [u8]) -> Written
     ensures { (result ≡ write_answer (setting_fits settings k) (setting_line settings k) buf.old) × (buf.new ≡ write_buffer (setting_fits settings k) (setting_line settings k) buf.old) }
 {
     if !is_setting(settings, k) {
-        return Written::Refused(Refusal::Range);
+        return Err(Refusal::Range);
     }
     put_setting(settings, k, buf)
 }

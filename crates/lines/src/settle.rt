@@ -10,10 +10,10 @@ use crate::table::{limit_of, runs_of};
 use crate::typed::narrow;
 use crate::values::read_values;
 use fields::text::ends_at;
-use fields::{Field, certificate_end, read_at, scan};
+use fields::{certificate_end, read_at, scan};
 use message::{Certificate, Settings};
 use units::limits::LINE;
-use units::{Group, Numbers, Refusal, Verdict};
+use units::{Group, Numbers, Refusal};
 
 // What is read so far, and the number of the next line, from 1. Nobody outside puts one together: it comes from a start and lines taken.
 #[derive(Clone, Copy)]
@@ -51,13 +51,11 @@ pub struct Settled {
 fn standing_at(line: u32, m: usize) -> Standing
     ensures { result ≡ standing_at line m }
 {
-    if line < 2 {
-        return Standing::More;
+    if 2 <= line && (line - 2) as usize == m {
+        Standing::Whole
+    } else {
+        Standing::More
     }
-    if (line - 2) as usize == m {
-        return Standing::Whole;
-    }
-    Standing::More
 }
 
 // Whether a text's first field is the letter of a kind.
@@ -83,55 +81,40 @@ fn any_group() -> Group
 pub(crate) fn turn_of(line: u32) -> usize
     ensures { result ≡ line - 3 }
 {
-    if line < 3 { 0 } else { (line - 3) as usize }
+    line.saturating_sub(3) as usize
 }
 
 fn with_sizes(settings: Settings, g: u64, m: u64) -> Settings
     ensures { result ≡ with_sizes settings (g ∷ m ∷ []) }
 {
-    let old = settings.numbers;
-    let factors = old.factors;
-    let weights = old.weights;
-    let certificates = settings.certificates;
     Settings {
         numbers: Numbers {
             group: Group {
                 g: g as usize,
                 m: m as usize,
             },
-            q: old.q,
-            r: old.r,
-            p: old.p,
-            factors,
-            weights,
+            ..settings.numbers
         },
-        certificates,
+        ..settings
     }
 }
 
 fn with_filter(settings: Settings, q: u64, r: u64, p: u64) -> Settings
     ensures { result ≡ with_filter settings (q ∷ r ∷ p ∷ []) }
 {
-    let old = settings.numbers;
-    let group = old.group;
-    let factors = old.factors;
-    let weights = old.weights;
-    let certificates = settings.certificates;
     Settings {
         numbers: Numbers {
-            group,
             q: narrow(q),
             r: narrow(r),
             p: narrow(p),
-            factors,
-            weights,
+            ..settings.numbers
         },
-        certificates,
+        ..settings
     }
 }
 
 fn with_run(
-    settings: Settings,
+    mut settings: Settings,
     run: usize,
     certificate: Certificate,
     factor: u64,
@@ -140,25 +123,10 @@ fn with_run(
     requires { run < 16 }
     ensures { result ≡ run_with settings run certificate factor weight }
 {
-    let old = settings.numbers;
-    let group = old.group;
-    let mut factors = old.factors;
-    let mut weights = old.weights;
-    let mut certificates = settings.certificates;
-    factors[run] = narrow(factor);
-    weights[run] = narrow(weight);
-    certificates[run] = certificate;
-    Settings {
-        numbers: Numbers {
-            group,
-            q: old.q,
-            r: old.r,
-            p: old.p,
-            factors,
-            weights,
-        },
-        certificates,
-    }
+    settings.numbers.factors[run] = narrow(factor);
+    settings.numbers.weights[run] = narrow(weight);
+    settings.certificates[run] = certificate;
+    settings
 }
 
 // The bytes of a text from a place to another, as a certificate.
@@ -167,24 +135,17 @@ fn certificate_of(text: &[u8], from: usize, to: usize) -> Certificate
     ensures { result ≡ certificate_of (take (to - from) (drop from text.now)) }
 {
     let len = to - from;
-    let mut bytes = [0u8; 16];
-    let mut i: usize = 0;
-    while i < len {
-        bytes[i] = text[from + i];
-        i += 1;
-    }
+    let mut bytes = [0; 16];
+    bytes[..len].copy_from_slice(&text[from..to]);
     Certificate { len, bytes }
 }
 
 impl Settling {
     // Nothing is read, and line 1 is next.
+    #[tactic(auto, unfolding(crate::specs::Settling::settling_start))]
     pub fn start() -> Settling
         ensures { result ≡ settling_start }
     {
-        let none = Certificate {
-            len: 0,
-            bytes: [0u8; 16],
-        };
         Settling {
             line: 1,
             settings: Settings {
@@ -193,10 +154,13 @@ impl Settling {
                     q: 0,
                     r: 0,
                     p: 0,
-                    factors: [0u32; 16],
-                    weights: [0u32; 16],
+                    factors: [0; 16],
+                    weights: [0; 16],
                 },
-                certificates: [none; 16],
+                certificates: [Certificate {
+                    len: 0,
+                    bytes: [0; 16],
+                }; 16],
             },
         }
     }
@@ -219,8 +183,7 @@ impl Settling {
     pub fn numbers(self) -> Numbers
         ensures { result ≡ self.settings.numbers }
     {
-        let settings = self.settings;
-        settings.numbers
+        self.settings.numbers
     }
 
     // The refusal of an input that ends where this line is still missing.
@@ -249,14 +212,12 @@ impl Settling {
         requires { self.line ≤ 1000 }
         ensures { result ≡ kept self settings }
     {
-        let line = self.line;
-        let m = settings.numbers.group.m;
         Settled {
             next: Settling {
-                line: line + 1,
+                line: self.line + 1,
                 settings,
             },
-            answer: standing_at(line, m),
+            answer: standing_at(self.line, settings.numbers.group.m),
         }
     }
 
@@ -271,8 +232,8 @@ impl Settling {
         let mut v = [0u64; 34];
         let settings = self.settings;
         match read_values(text, Kind::Sizes, any_group(), &mut v, fields) {
-            Verdict::Taken => self.keep(with_sizes(settings, v[0], v[1])),
-            Verdict::Refused(why) => self.stop(why),
+            Ok(()) => self.keep(with_sizes(settings, v[0], v[1])),
+            Err(why) => self.stop(why),
         }
     }
 
@@ -287,8 +248,8 @@ impl Settling {
         let mut v = [0u64; 34];
         let settings = self.settings;
         match read_values(text, Kind::Filter, any_group(), &mut v, fields) {
-            Verdict::Taken => self.keep(with_filter(settings, v[0], v[1], v[2])),
-            Verdict::Refused(why) => self.stop(why),
+            Ok(()) => self.keep(with_filter(settings, v[0], v[1], v[2])),
+            Err(why) => self.stop(why),
         }
     }
 
@@ -302,12 +263,11 @@ impl Settling {
         let spelling = limit.spelling;
         let settings = self.settings;
         match read_at(text, at, spelling, limit.low, limit.high) {
-            Field::Value { n, next: _ } => {
+            Ok(field) => {
                 let certificate = certificate_of(text, from, end);
-                self.keep(with_run(settings, turn, certificate, factor, n))
+                self.keep(with_run(settings, turn, certificate, factor, field.n))
             }
-            Field::Form => self.stop(Refusal::Form),
-            Field::Range => self.stop(Refusal::Range),
+            Err(why) => self.stop(Refusal::from(why)),
         }
     }
 
@@ -320,9 +280,8 @@ impl Settling {
         let limit = limit_of(Kind::Run, 1, any_group(), turn as u64);
         let spelling = limit.spelling;
         match read_at(text, end + 1, spelling, limit.low, limit.high) {
-            Field::Value { n, next } => self.take_weight(text, from, end, n, next),
-            Field::Form => self.stop(Refusal::Form),
-            Field::Range => self.stop(Refusal::Range),
+            Ok(field) => self.take_weight(text, from, end, field.n, field.next),
+            Err(why) => self.stop(Refusal::from(why)),
         }
     }
 
@@ -332,8 +291,8 @@ impl Settling {
         ensures { result ≡ settle_certificate self (later_fields text.now) }
     {
         match certificate_end(text, at) {
-            fields::Certificate::At { end } => self.take_factor(text, at, end),
-            fields::Certificate::Form => self.stop(Refusal::Form),
+            Some(end) => self.take_factor(text, at, end),
+            None => self.stop(Refusal::Form),
         }
     }
 
@@ -352,9 +311,8 @@ impl Settling {
         let limit = limit_of(Kind::Run, 0, any_group(), turn as u64);
         let spelling = limit.spelling;
         match read_at(text, 2, spelling, limit.low, limit.high) {
-            Field::Value { n: _, next } => self.take_certificate(text, next),
-            Field::Form => self.stop(Refusal::Form),
-            Field::Range => self.stop(Refusal::Range),
+            Ok(field) => self.take_certificate(text, field.next),
+            Err(why) => self.stop(Refusal::from(why)),
         }
     }
 

@@ -1,5 +1,5 @@
 // The numbers of a line read straight on, its fields not counted first; a line that is not as it should be is read again with care.
-ghost use Rattle.std.specs.Prelude.{◌≡◌, true, ℕ, ◌≤◌, ◌<◌, get_or, length, take};
+ghost use Rattle.std.specs.Prelude.{◌≡◌, ℕ, ◌≤◌, ◌<◌, get_or, length, take};
 ghost use Rattle.fields.specs.declared.spelling.Spelling.{Spelling};
 ghost use Rattle.lines.specs.Straight.{AfterTab, Trod};
 ghost use Rattle.lines.specs.declared.kind.Kind.{Kind};
@@ -10,17 +10,10 @@ use crate::kind::Kind;
 use crate::table::{Limit, count_of, limit_of};
 use crate::values::label_in;
 use fields::text::{TAB, is_at};
-use fields::{Field, read_decimal_here, read_here};
+use fields::{Fault, Field, read_decimal_here, read_here};
 use units::Group;
 
-// Whether all is as it should be so far, and the place after what is read.
-#[derive(Clone, Copy)]
-pub struct Trail {
-    pub good: bool,
-    pub at: usize,
-}
-
-// Reads the numbers from place `from` up to `to`, each after its tab.
+// Reads the numbers from place `from` up to `to`, each after its tab, and gives the place after them; nothing where one is not as it should be.
 fn go_on(
     input: &[u8],
     kind: Kind,
@@ -29,31 +22,26 @@ fn go_on(
     from: usize,
     to: usize,
     start: usize,
-) -> Trail
+) -> Option<usize>
     requires { (from ≤ to) × (to ≤ 34) × Trod kind group input.now v.old from start }
-    ensures { (result.good ≡ true → Trod kind group input.now v.new to result.at) × ((i : ℕ) → i < from → get_or v.new i 0 ≡ get_or v.old i 0) }
+    ensures { ((at : ℕ) → result ≡ Some at → Trod kind group input.now v.new to at) × ((i : ℕ) → i < from → get_or v.new i 0 ≡ get_or v.old i 0) }
 {
     let mut at = start;
-    let mut k = from;
-    while k < to {
+    for k in from..to {
         if !is_at(input, at, TAB) {
-            return Trail { good: false, at };
+            return None;
         }
         let limit = limit_of(kind, k, group, label_in(v, k));
         let spelling = limit.spelling;
         let low = limit.low;
         let high = limit.high;
-        match read_here(input, at + 1, spelling, low, high) {
-            Field::Value { n, next } => {
-                v[k] = n;
-                at = next;
-            }
-            Field::Form => return Trail { good: false, at },
-            Field::Range => return Trail { good: false, at },
-        }
-        k += 1;
+        let Ok(field) = read_here(input, at + 1, spelling, low, high) else {
+            return None;
+        };
+        v[k] = field.n;
+        at = field.next;
     }
-    Trail { good: true, at }
+    Some(at)
 }
 
 // What the number at a place is judged by, once those before it are read.
@@ -65,12 +53,12 @@ fn limit_at(kind: Kind, k: usize, group: Group, v: &[u64; 34]) -> Limit
 }
 
 // The decimal number that stands after a tab.
-fn after_tab(input: &[u8], at: usize, limit: Limit) -> Field
+fn after_tab(input: &[u8], at: usize, limit: Limit) -> Result<Field, Fault>
     requires { limit.spelling ≡ Spelling.Decimal }
     ensures { AfterTab input.now at limit result }
 {
     if !is_at(input, at, TAB) {
-        return Field::Form;
+        return Err(Fault::Form);
     }
     let low = limit.low;
     let high = limit.high;
@@ -78,60 +66,35 @@ fn after_tab(input: &[u8], at: usize, limit: Limit) -> Field
 }
 
 // The three numbers of M, the most common line, one after the other.
-pub(crate) fn reading_in(input: &[u8], group: Group, v: &mut [u64; 34]) -> Trail
+pub(crate) fn reading_in(input: &[u8], group: Group, v: &mut [u64; 34]) -> Option<usize>
     requires { Trod Kind.Reading group input.now v.old 0 1 }
-    ensures { result.good ≡ true → Trod Kind.Reading group input.now v.new 3 result.at }
+    ensures { (at : ℕ) → result ≡ Some at → Trod Kind.Reading group input.now v.new 3 at }
 {
-    let first = after_tab(input, 1, limit_at(Kind::Reading, 0, group, v));
-    let Field::Value {
-        n: label,
-        next: one,
-    } = first
-    else {
-        return Trail { good: false, at: 1 };
+    let Ok(label) = after_tab(input, 1, limit_at(Kind::Reading, 0, group, v)) else {
+        return None;
     };
-    v[0] = label;
-    let second = after_tab(input, one, limit_at(Kind::Reading, 1, group, v));
-    let Field::Value { n: run, next: two } = second else {
-        return Trail {
-            good: false,
-            at: one,
-        };
+    v[0] = label.n;
+    let Ok(run) = after_tab(input, label.next, limit_at(Kind::Reading, 1, group, v)) else {
+        return None;
     };
-    v[1] = run;
-    let third = after_tab(input, two, limit_at(Kind::Reading, 2, group, v));
-    let Field::Value {
-        n: raw,
-        next: three,
-    } = third
-    else {
-        return Trail {
-            good: false,
-            at: two,
-        };
+    v[1] = run.n;
+    let Ok(raw) = after_tab(input, run.next, limit_at(Kind::Reading, 2, group, v)) else {
+        return None;
     };
-    v[2] = raw;
-    Trail {
-        good: true,
-        at: three,
-    }
+    v[2] = raw.n;
+    Some(raw.next)
 }
 
 // All numbers of a line of a kind; R's are counted once its mask is read.
-pub(crate) fn numbers_in(input: &[u8], kind: Kind, group: Group, v: &mut [u64; 34]) -> Trail
+pub(crate) fn numbers_in(input: &[u8], kind: Kind, group: Group, v: &mut [u64; 34]) -> Option<usize>
     requires { Trod kind group input.now v.old 0 1 }
-    ensures { result.good ≡ true → Trod kind group input.now v.new (count_of kind group (get_or v.new 2 0)) result.at }
+    ensures { (at : ℕ) → result ≡ Some at → Trod kind group input.now v.new (count_of kind group (get_or v.new 2 0)) at }
 {
     let heads = count_of(kind, group, 0);
-    let head = go_on(input, kind, group, v, 0, heads, 1);
-    let good = head.good;
-    let at = head.at;
-    if !good {
-        return Trail { good, at };
-    }
+    let at = go_on(input, kind, group, v, 0, heads, 1)?;
     let total = count_of(kind, group, v[2]);
     if total == heads {
-        return Trail { good, at };
+        return Some(at);
     }
     go_on(input, kind, group, v, heads, total, at)
 }

@@ -67,6 +67,7 @@ fn either(first: bool, a: Quantity, b: Quantity) -> Quantity
 }
 
 // What stands at a place, from 0, of a line's numbers.
+#[tactic(auto, unfolding(crate::specs::Table::quantity_at))]
 pub(crate) fn quantity_at(kind: Kind, place: usize) -> Quantity
     ensures { result ≡ quantity_at kind place }
 {
@@ -193,42 +194,34 @@ fn made(spelling: Spelling, low: u64, high: u64) -> Limit
     }
 }
 
-fn less_one(n: u64) -> u64
-    ensures { result ≡ n - 1 }
-{
-    if n == 0 { 0 } else { n - 1 }
-}
-
-fn wide(n: u32) -> u64
-    ensures { result ≡ n }
-{
-    n as u64
-}
-
 impl Quantity {
     // `given` is the line's own label, of which a base state label lies below, or the run whose turn it is.
     pub(crate) fn bounds(self, group: Group, given: u64) -> Limit
         ensures { result ≡ limit_for self group given }
     {
         match self {
-            Quantity::Sender => made(Spelling::Decimal, 0, less_one(group.g as u64)),
-            Quantity::RunNumber => made(Spelling::Decimal, 0, less_one(group.m as u64)),
-            Quantity::Round => made(Spelling::Decimal, ROUND_LOW as u64, LABEL_TOP as u64),
-            Quantity::State => made(Spelling::Decimal, 0, LABEL_TOP as u64),
-            Quantity::Base => made(Spelling::Decimal, 0, less_one(given)),
-            Quantity::Mask => made(Spelling::Hex4, 1, less_one(wide(mask_end(group.m)))),
-            Quantity::Raw => made(Spelling::Decimal, 0, RAW_TOP as u64),
+            Quantity::Sender => made(Spelling::Decimal, 0, (group.g as u64).saturating_sub(1)),
+            Quantity::RunNumber => made(Spelling::Decimal, 0, (group.m as u64).saturating_sub(1)),
+            Quantity::Round => made(Spelling::Decimal, ROUND_LOW.into(), LABEL_TOP.into()),
+            Quantity::State => made(Spelling::Decimal, 0, LABEL_TOP.into()),
+            Quantity::Base => made(Spelling::Decimal, 0, given.saturating_sub(1)),
+            Quantity::Mask => made(
+                Spelling::Hex4,
+                1,
+                u64::from(mask_end(group.m)).saturating_sub(1),
+            ),
+            Quantity::Raw => made(Spelling::Decimal, 0, RAW_TOP.into()),
             Quantity::X => made(Spelling::Hex16, 0, X_BITS),
             Quantity::Variance => made(Spelling::Hex16, 0, VARIANCE_BITS),
             Quantity::Target => made(Spelling::Hex16, 0, TARGET_BITS),
-            Quantity::Number => made(Spelling::Decimal, NUMBER_LOW as u64, NUMBER_TOP as u64),
+            Quantity::Number => made(Spelling::Decimal, NUMBER_LOW.into(), NUMBER_TOP.into()),
             Quantity::Controllers => made(Spelling::Decimal, 1, CONTROLLERS as u64),
             Quantity::Runs => made(Spelling::Decimal, 1, RUNS as u64),
-            Quantity::Noise => made(Spelling::Decimal, NOISE_LOW as u64, NOISE_TOP as u64),
-            Quantity::First => made(Spelling::Decimal, FIRST_LOW as u64, FIRST_TOP as u64),
+            Quantity::Noise => made(Spelling::Decimal, NOISE_LOW.into(), NOISE_TOP.into()),
+            Quantity::First => made(Spelling::Decimal, FIRST_LOW.into(), FIRST_TOP.into()),
             Quantity::Turn => made(Spelling::Decimal, given, given),
-            Quantity::Factor => made(Spelling::Factor, FACTOR_LOW as u64, FACTOR_TOP as u64),
-            Quantity::Weight => made(Spelling::Decimal, WEIGHT_LOW as u64, WEIGHT_TOP as u64),
+            Quantity::Factor => made(Spelling::Factor, FACTOR_LOW.into(), FACTOR_TOP.into()),
+            Quantity::Weight => made(Spelling::Decimal, WEIGHT_LOW.into(), WEIGHT_TOP.into()),
         }
     }
 }
@@ -244,17 +237,18 @@ pub(crate) fn limit_of(kind: Kind, place: usize, group: Group, given: u64) -> Li
 pub(crate) fn runs_of(m: usize) -> usize
     ensures { result ≡ runs_of m }
 {
-    if m < RUNS { m } else { RUNS }
+    m.min(RUNS)
 }
 
 // The set bits of a mask of sixteen.
 fn bits_of_mask(mask: u64) -> usize
     ensures { (result ≡ ones (mask % 65536)) × (result ≤ 16) }
 {
-    u32::count_ones((mask % 65536) as u32) as usize
+    (mask % 65536).count_ones() as usize
 }
 
 // How many numbers a line of a kind has; of R they are known once its mask is.
+#[tactic(auto, unfolding(crate::specs::Table::count_of))]
 pub(crate) fn count_of(kind: Kind, group: Group, mask: u64) -> usize
     ensures { (result ≡ count_of kind group mask) × (result ≤ 34) }
 {

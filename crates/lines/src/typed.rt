@@ -2,10 +2,9 @@
 ghost use Rattle.std.specs.Prelude.{◌≡◌, ◌≤◌};
 ghost use Rattle.floats.specs.Bits.{float_of};
 ghost use Rattle.lines.specs.Lists.{column};
-ghost use Rattle.lines.specs.Values.{estimate_in, head_of, message_of, pick_word, reading_in, target_in, tally, word};
+ghost use Rattle.lines.specs.Values.{estimate_in, head_of, message_of, reading_in, target_in, word};
 
 use crate::kind::Kind;
-use crate::table::runs_of;
 use floats::bits::float_of;
 use message::{Head, Message};
 use units::limits::RUNS;
@@ -20,13 +19,14 @@ pub(crate) fn narrow(n: u64) -> u32
 }
 
 // The head of a line that begins with these numbers.
+#[tactic(auto, unfolding(crate::specs::Values::head_of))]
 fn head_of(kind: Kind, a: u64, b: u64, c: u64, d: u64) -> Head
     ensures { result ≡ head_of kind a b c d }
 {
-    let wa = (a % 4294967296) as u32;
-    let wb = (b % 4294967296) as u32;
-    let wc = (c % 4294967296) as u32;
-    let wd = (d % 4294967296) as u32;
+    let wa = narrow(a);
+    let wb = narrow(b);
+    let wc = narrow(c);
+    let wd = narrow(d);
     match kind {
         Kind::Reading => Head::Reading {
             label: RoundLabel(wa),
@@ -90,19 +90,6 @@ fn head_of(kind: Kind, a: u64, b: u64, c: u64, d: u64) -> Head
     }
 }
 
-fn raw_where(here: bool, n: u64) -> u32
-    ensures { result ≡ pick_word here n }
-{
-    if here { narrow(n) } else { 0 }
-}
-
-fn one_more(here: bool, n: usize) -> usize
-    requires { n ≤ 34 }
-    ensures { result ≡ tally here n }
-{
-    if here { n + 1 } else { n }
-}
-
 // The readings by run: one for each set bit, from place 3 on.
 fn readings_in(mask: u32, v: &[u64; 34]) -> [u32; 16]
     ensures { result ≡ column (reading_in mask v.now) 16 }
@@ -111,14 +98,12 @@ fn readings_in(mask: u32, v: &[u64; 34]) -> [u32; 16]
     if mask == 0 {
         return out;
     }
-    let mut at: usize = 3;
-    let mut i: usize = 0;
-    while i < RUNS {
-        let here = has(mask, i);
-        let n = v[at];
-        out[i] = raw_where(here, n);
-        at = one_more(here, at);
-        i += 1;
+    let mut at = 3;
+    for i in 0..RUNS {
+        if has(mask, i) {
+            out[i] = narrow(v[at]);
+            at += 1;
+        }
     }
     out
 }
@@ -136,35 +121,21 @@ fn estimate_of(x: u64, variance: u64) -> Estimate
 fn estimates_in(n: usize, v: &[u64; 34]) -> [Estimate; 16]
     ensures { result ≡ column (estimate_in n v.now) 16 }
 {
-    let blank = Estimate {
-        x: 0.0,
-        variance: 0.0,
-    };
-    let mut out = [blank; 16];
-    let runs = runs_of(n);
-    let mut i: usize = 0;
-    while i < runs {
-        let x = v[2 + 2 * i];
-        let variance = v[3 + 2 * i];
-        out[i] = estimate_of(x, variance);
-        i += 1;
-    }
-    out
+    std::array::from_fn(|i| if i < n {
+        estimate_of(v[2 + 2 * i], v[3 + 2 * i])
+    } else {
+        Estimate {
+            x: 0.0,
+            variance: 0.0,
+        }
+    })
 }
 
 // The targets of n runs, from place 4 on.
 fn targets_in(n: usize, v: &[u64; 34]) -> [f64; 16]
     ensures { result ≡ column (target_in n v.now) 16 }
 {
-    let mut out = [0.0f64; 16];
-    let runs = runs_of(n);
-    let mut i: usize = 0;
-    while i < runs {
-        let target = v[4 + i];
-        out[i] = float_of(target);
-        i += 1;
-    }
-    out
+    std::array::from_fn(|i| if i < n { float_of(v[4 + i]) } else { 0.0 })
 }
 
 pub(crate) fn message_of(kind: Kind, group: Group, v: &[u64; 34]) -> Message

@@ -1,6 +1,5 @@
 // The numbers of a line, read field by field with a cursor.
 ghost use Rattle.std.specs.Prelude.{◌≡◌, ◌≤◌, length, get_or, take};
-ghost use Rattle.units.specs.declared.refusal.Verdict.{Verdict};
 ghost use Rattle.fields.specs.Text.{later_fields};
 ghost use Rattle.lines.specs.Reading.{enough, read_rest, read_values, values};
 ghost use Rattle.lines.specs.Table.{count_of};
@@ -8,24 +7,8 @@ ghost use Rattle.lines.specs.Walk.{Filled, Here, Rest, Walked};
 
 use crate::kind::Kind;
 use crate::table::{count_of, limit_of};
-use fields::{Field, read_at};
+use fields::read_at;
 use units::{Group, Refusal, Verdict};
-
-// How far a walk over fields came, and where the next field starts.
-#[derive(Clone, Copy)]
-pub struct Walk {
-    pub verdict: Verdict,
-    pub at: usize,
-}
-
-fn stopped(why: Refusal, at: usize) -> Walk
-    ensures { result ≡ record { verdict = Verdict.Refused why; at = at } }
-{
-    Walk {
-        verdict: Verdict::Refused(why),
-        at,
-    }
-}
 
 // The label among the numbers before a place, where it is read already.
 pub(crate) fn label_in(v: &[u64; 34], place: usize) -> u64
@@ -34,7 +17,7 @@ pub(crate) fn label_in(v: &[u64; 34], place: usize) -> u64
     if 1 < place { v[1] } else { 0 }
 }
 
-// Reads the numbers from place `from` up to `to`.
+// Reads the numbers from place `from` up to `to`, and gives the place where the next field starts.
 fn read_on(
     text: &[u8],
     kind: Kind,
@@ -43,31 +26,18 @@ fn read_on(
     from: usize,
     to: usize,
     start: usize,
-) -> Walk
+) -> Result<usize, Refusal>
     requires { (from ≤ to) × (to ≤ 34) × (to ≤ length (later_fields text.now)) × Here text.now start from × Rest v.old from × (length v.old ≡ 34) }
     ensures { Walked kind group text.now v.old v.new from to result }
 {
     let mut at = start;
-    let mut k = from;
-    while k < to {
+    for k in from..to {
         let limit = limit_of(kind, k, group, label_in(v, k));
-        let spelling = limit.spelling;
-        let low = limit.low;
-        let high = limit.high;
-        match read_at(text, at, spelling, low, high) {
-            Field::Value { n, next } => {
-                v[k] = n;
-                at = next;
-            }
-            Field::Form => return stopped(Refusal::Form, at),
-            Field::Range => return stopped(Refusal::Range, at),
-        }
-        k += 1;
+        let field = read_at(text, at, limit.spelling, limit.low, limit.high)?;
+        v[k] = field.n;
+        at = field.next;
     }
-    Walk {
-        verdict: Verdict::Taken,
-        at,
-    }
+    Ok(at)
 }
 
 // Whether there are so many fields that a line of a kind can be judged.
@@ -96,10 +66,12 @@ fn read_rest(
 {
     let total = count_of(kind, group, v[2]);
     if fields != total {
-        return Verdict::Refused(Refusal::Fields);
+        return Err(Refusal::Fields);
     }
-    let walk = read_on(text, kind, group, v, heads, total, start);
-    walk.verdict
+    match read_on(text, kind, group, v, heads, total, start) {
+        Ok(_) => Ok(()),
+        Err(why) => Err(why),
+    }
 }
 
 // Reads all numbers of a line of a kind, whose fields are counted already.
@@ -114,14 +86,11 @@ pub(crate) fn read_values(
     ensures { Filled kind group text.now v.new (read_values kind group (later_fields text.now)) result }
 {
     if !is_enough(kind, group, fields) {
-        return Verdict::Refused(Refusal::Fields);
+        return Err(Refusal::Fields);
     }
     let heads = count_of(kind, group, 0);
-    let walk = read_on(text, kind, group, v, 0, heads, 2);
-    let verdict = walk.verdict;
-    let at = walk.at;
-    match verdict {
-        Verdict::Taken => read_rest(text, kind, group, v, fields, heads, at),
-        Verdict::Refused(why) => Verdict::Refused(why),
+    match read_on(text, kind, group, v, 0, heads, 2) {
+        Ok(at) => read_rest(text, kind, group, v, fields, heads, at),
+        Err(why) => Err(why),
     }
 }

@@ -3,4 +3,3 @@ pub mod Ranges
 pub mod Plain
 pub mod Views
 pub mod InRange
-mod Lengths

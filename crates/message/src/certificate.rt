@@ -16,7 +16,7 @@ fn len_in_range(run: bool, len: usize) -> bool
     ensures { result ≡ len_fits run len }
 {
     if run {
-        (1 <= len) & (len <= CERTIFICATE)
+        (1..=CERTIFICATE).contains(&len)
     } else {
         len == 0
     }
@@ -34,12 +34,7 @@ impl Certificate {
         ensures { result ≡ certificate_fits run self }
     {
         let len = self.len;
-        let mut fit = len_in_range(run, len);
-        let mut i = 0usize;
-        while i < CERTIFICATE {
-            fit = fit & byte_in_range(i < len, self.bytes[i]);
-            i += 1;
-        }
-        fit
+        let mut places = self.bytes.iter().enumerate();
+        len_in_range(run, len) & places.all(|(i, b)| byte_in_range(i < len, *b))
     }
 }

@@ -82,6 +82,7 @@ fn carry(readings: u32, estimates: usize, targets: usize) -> Carried
     }
 }
 
+#[tactic(auto, unfolding(crate::specs::Head::head_fits))]
 fn reading_fits(group: Group, label: RoundLabel, run: usize, raw: u32) -> bool
     ensures { result ≡ head_fits group (Head.Reading label run raw) }
 {
@@ -89,6 +90,7 @@ fn reading_fits(group: Group, label: RoundLabel, run: usize, raw: u32) -> bool
 }
 
 // Q and R.
+#[tactic(auto, unfolding(crate::specs::Head::head_fits))]
 fn mask_fits(group: Group, sender: usize, label: RoundLabel, mask: u32) -> bool
     ensures { result ≡ head_fits group (Head.Query sender label mask) }
 {
@@ -96,6 +98,7 @@ fn mask_fits(group: Group, sender: usize, label: RoundLabel, mask: u32) -> bool
 }
 
 // A and U.
+#[tactic(auto, unfolding(crate::specs::Head::head_fits))]
 fn state_fits(group: Group, sender: usize, state: StateLabel) -> bool
     ensures { result ≡ head_fits group (Head.Advert sender state) }
 {
@@ -110,6 +113,7 @@ fn digest_fits(group: Group, sender: usize, label: RoundLabel, digest: Digest) -
 }
 
 impl Head {
+    #[tactic(auto, unfolding(crate::specs::Head::head_fits))]
     pub fn in_range(self, group: Group) -> bool
         ensures { result ≡ head_fits group self }
     {
@@ -119,77 +123,55 @@ impl Head {
                 sender,
                 label,
                 mask,
-            } => mask_fits(group, sender, label, mask),
-            Head::Reply {
+            }
+            | Head::Reply {
                 sender,
                 label,
                 mask,
-            } => mask_fits(group, sender, label, mask),
-            Head::Advert { sender, state } => state_fits(group, sender, state),
-            Head::Update { sender, state } => state_fits(group, sender, state),
+            } => { mask_fits(group, sender, label, mask) }
+            Head::Advert { sender, state } | Head::Update { sender, state } => {
+                state_fits(group, sender, state)
+            }
             Head::Vote {
                 sender,
                 label,
                 digest,
-            } => digest_fits(group, sender, label, digest),
-            Head::Setpoints {
+            }
+            | Head::Setpoints {
                 sender,
                 label,
                 digest,
-            } => digest_fits(group, sender, label, digest),
-            Head::Due { label } => label.in_range(),
-            Head::CollectingEnds { label } => label.in_range(),
-            Head::VotingEnds { label } => label.in_range(),
-            Head::Floor { label } => label.in_range(),
+            } => { digest_fits(group, sender, label, digest) }
+            Head::Due { label }
+            | Head::CollectingEnds { label }
+            | Head::VotingEnds { label }
+            | Head::Floor { label } => label.in_range(),
             Head::Start { own, floor } => (own < group.g) & floor.floor_in_range(),
             Head::Refused { number } => is_number(number),
         }
     }
 
     // What arrays it carries: readings in R, estimates in U, targets in S.
+    #[tactic(auto, using(crate::proofs::Views::none_carrying), unfolding(crate::specs::Head::carried))]
     pub fn carries(self, group: Group) -> Carried
         ensures { result ≡ carried group self }
     {
-        let m = group.m;
         match self {
-            Head::Reply {
-                sender: _,
-                label: _,
-                mask,
-            } => carry(mask, 0, 0),
-            Head::Update {
-                sender: _,
-                state: _,
-            } => carry(0, m, 0),
-            Head::Setpoints {
-                sender: _,
-                label: _,
-                digest: _,
-            } => carry(0, 0, m),
+            Head::Reply { mask, .. } => carry(mask, 0, 0),
+            Head::Update { .. } => carry(0, group.m, 0),
+            Head::Setpoints { .. } => carry(0, 0, group.m),
             _ => carry(0, 0, 0),
         }
     }
 
     // Whether its message carries no array: it is of any kind but R, U and S.
+    #[tactic(auto, using(crate::proofs::Views::none_carrying), unfolding(crate::specs::Head::is_plain))]
     pub fn is_plain(self) -> bool
         ensures { result ≡ is_plain self }
     {
-        match self {
-            Head::Reply {
-                sender: _,
-                label: _,
-                mask: _,
-            } => false,
-            Head::Update {
-                sender: _,
-                state: _,
-            } => false,
-            Head::Setpoints {
-                sender: _,
-                label: _,
-                digest: _,
-            } => false,
-            _ => true,
-        }
+        !matches!(
+            self,
+            Head::Reply { .. } | Head::Update { .. } | Head::Setpoints { .. }
+        )
     }
 }

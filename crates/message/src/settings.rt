@@ -4,7 +4,6 @@ ghost use Rattle.message.specs.Settings.{settings_fit};
 
 use crate::certificate::Certificate;
 use units::Numbers;
-use units::limits::RUNS;
 
 // The numbers that G, N and K give, and each run's certificate.
 #[derive(Clone, Copy)]
@@ -19,13 +18,7 @@ impl Settings {
     {
         let numbers = self.numbers;
         let m = numbers.group.m;
-        let mut fit = numbers.in_range();
-        let mut i = 0usize;
-        while i < RUNS {
-            let certificate = self.certificates[i];
-            fit = fit & certificate.in_range(i < m);
-            i += 1;
-        }
-        fit
+        let mut places = self.certificates.iter().enumerate();
+        numbers.in_range() & places.all(|(i, certificate)| certificate.in_range(i < m))
     }
 }

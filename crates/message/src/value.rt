@@ -17,6 +17,7 @@ pub struct Message {
 
 impl Message {
     // A message that carries no array.
+    #[tactic(auto, unfolding(crate::specs::Message::plain))]
     pub fn plain(head: Head) -> Message
         ensures { result ≡ plain head }
     {
@@ -32,6 +33,7 @@ impl Message {
         }
     }
 
+    #[tactic(auto, unfolding(crate::specs::Message::message_fits))]
     pub fn in_range(self, group: Group) -> bool
         ensures { result ≡ message_fits group self }
     {

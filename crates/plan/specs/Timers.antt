@@ -1,8 +1,7 @@
 -- C, E and V of 'Phases of a round': 10 comes before 9.
-use Rattle.std.specs.Prelude.{ℕ, ◌-◌, not, eqb, ltb}
+use Rattle.std.specs.Prelude.{ℕ, ◌-◌, not, eqb, ltb, Err, None}
 use Rattle.units.specs.declared.labels.RoundLabel.{RoundLabel}
 use Rattle.units.specs.declared.refusal.Refusal.TheVariants.{Closed, Other, Undecided}
-use Rattle.units.specs.declared.refusal.Verdict.TheVariants.{Refused}
 use Rattle.units.specs.Labels.{just_before}
 use Rattle.units.specs.Mask.{mask_end}
 use Rattle.units.specs.Pick.{pick}
@@ -11,7 +10,6 @@ use Rattle.plan.specs.declared.brief.Brief.{Brief}
 use Rattle.plan.specs.declared.brief.Phase.{Phase}
 use Rattle.plan.specs.declared.brief.Phase.TheVariants.{Idle, Collecting, Pending, Voting}
 use Rattle.plan.specs.declared.planned.Effect.TheVariants.{Keep, Go}
-use Rattle.plan.specs.declared.planned.Sent.TheVariants.{Nothing}
 use Rattle.plan.specs.declared.planned.Plan.{Plan}
 use Rattle.plan.specs.Plan.{refuse, does, sends, both}
 
@@ -53,7 +51,7 @@ unfoldable pub in_voting_ends : Phase → Plan
 in_voting_ends Idle = refuse Closed
 in_voting_ends Collecting = refuse Closed
 in_voting_ends Pending = refuse Closed
-in_voting_ends Voting = record { effect = Go Idle; first = Nothing; second = Nothing; verdict = Refused Undecided }
+in_voting_ends Voting = record { effect = Go Idle; first = None; second = None; verdict = Err Undecided }
 
 -- V (voting): 12
 unfoldable pub plan_voting_ends : Brief → RoundLabel → Plan

@@ -1,25 +1,21 @@
 -- F and D of 'Phases of a round', and "While voting, the vote is judged after F and after each D".
-use Rattle.std.specs.Prelude.{ℕ, Bool, not, ◌&&◌, eqb}
+use Rattle.std.specs.Prelude.{ℕ, Bool, not, ◌&&◌, eqb, Err, None, Ok, Some}
 use Rattle.std.specs.Int.Bits.{bit_and}
 use Rattle.units.specs.declared.labels.RoundLabel.{RoundLabel}
 use Rattle.units.specs.declared.refusal.Refusal.{Refusal}
 use Rattle.units.specs.declared.refusal.Refusal.TheVariants.{Own, Closed, Other, Clash, Lacking, Behind}
-use Rattle.units.specs.declared.refusal.Verdict.TheVariants.{Taken, Refused}
 use Rattle.units.specs.Labels.{before}
 use Rattle.units.specs.Pick.{pick}
 use Rattle.vote.specs.declared.digest.Digest.{Digest}
-use Rattle.vote.specs.declared.votes.Ballot.{Ballot}
-use Rattle.vote.specs.declared.votes.Ballot.TheVariants.{Missing, Cast}
-use Rattle.vote.specs.declared.judge.Decision.{Decision}
-use Rattle.vote.specs.declared.judge.Decision.TheVariants.{Undecided, Decided, Refused as Unjudged}
+use Rattle.vote.specs.Digest.{Ballot}
+use Rattle.vote.specs.Digest.{Decision}
 use Rattle.vote.specs.Digest.{same}
 use Rattle.message.specs.declared.head.Head.TheVariants.{Vote, Setpoints}
 use Rattle.plan.specs.declared.brief.Brief.{Brief}
 use Rattle.plan.specs.declared.brief.Phase.{Phase}
 use Rattle.plan.specs.declared.brief.Phase.TheVariants.{Idle, Collecting, Pending, Voting}
 use Rattle.plan.specs.declared.planned.Effect.TheVariants.{Count, Issue}
-use Rattle.plan.specs.declared.planned.Sent.{Sent}
-use Rattle.plan.specs.declared.planned.Sent.TheVariants.{Nothing}
+use Rattle.plan.specs.Plan.{Sent}
 use Rattle.plan.specs.declared.planned.Plan.{Plan}
 use Rattle.plan.specs.Plan.{refuse, does, sends, afterwards}
 
@@ -40,8 +36,8 @@ plan_floor b label = pick (not (eqb label.0 b.label.0)) (refuse Other) (in_floor
 
 -- "kept for its sender; the same again changes nothing, another is 11"; the ballot is what the sender's seat holds
 unfoldable pub in_seat : ℕ → Digest → Phase → Ballot → Plan
-in_seat sender digest phase Missing = does (Count sender digest phase)
-in_seat sender digest phase (Cast e) = pick (same e digest) (does (Count sender digest phase)) (refuse Clash)
+in_seat sender digest phase None = does (Count sender digest phase)
+in_seat sender digest phase (Some e) = pick (same e digest) (does (Count sender digest phase)) (refuse Clash)
 
 unfoldable pub in_digest : Brief → Ballot → ℕ → Digest → Phase → Plan
 in_digest b cast sender digest Idle = refuse Closed
@@ -60,7 +56,7 @@ plan_digest b cast sender label digest =
 
 -- "12, 13 and 14 .. end the round: the phase becomes idle, all else kept, with the D or F that led there taken in"
 abbrev pub end_of : ℕ → Digest → Sent → Refusal → Plan
-end_of seat digest first why = record { effect = Count seat digest Idle; first = first; second = Nothing; verdict = Refused why }
+end_of seat digest first why = record { effect = Count seat digest Idle; first = first; second = None; verdict = Err why }
 
 -- 13 "if the chosen mask isn't within the held one or the state labels differ"
 unfoldable pub possessed : Brief → Digest → Bool
@@ -75,6 +71,6 @@ chosen_plan b seat digest first chosen =
 
 -- a vote was taken in while voting, `first` goes out with it, and all votes together are decided so
 unfoldable pub judged : Brief → ℕ → Digest → Sent → Decision → Plan
-judged b seat digest first (Unjudged why) = record { effect = Count seat digest Voting; first = first; second = Nothing; verdict = Taken }
-judged b seat digest first Undecided = record { effect = Count seat digest Voting; first = first; second = Nothing; verdict = Taken }
-judged b seat digest first (Decided chosen) = chosen_plan b seat digest first chosen
+judged b seat digest first (Err why) = record { effect = Count seat digest Voting; first = first; second = None; verdict = Ok tt }
+judged b seat digest first (Ok None) = record { effect = Count seat digest Voting; first = first; second = None; verdict = Ok tt }
+judged b seat digest first (Ok (Some chosen)) = chosen_plan b seat digest first chosen

@@ -5,7 +5,7 @@ ghost use Rattle.plan.specs.Votes.{chosen_plan, end_of, judged, possessed};
 use crate::brief::{Brief, Phase};
 use crate::planned::{Effect, Plan, Sent, sending_after};
 use message::Head;
-use units::{Refusal, Verdict};
+use units::Refusal;
 use vote::{Decision, Digest};
 
 // The round's end with the vote taken in: the phase becomes idle, all else is kept.
@@ -19,8 +19,8 @@ fn end(seat: usize, digest: Digest, first: Sent, why: Refusal) -> Plan
             phase: Phase::Idle,
         },
         first,
-        second: Sent::Nothing,
-        verdict: Verdict::Refused(why),
+        second: None,
+        verdict: Err(why),
     }
 }
 
@@ -62,32 +62,23 @@ impl Brief {
     }
 
     // A vote was taken in while voting, `first` goes out with it, and all votes together are decided so.
+    #[tactic(auto, unfolding(crate::specs::Votes::judged))]
     pub fn judge(self, seat: usize, digest: Digest, first: Sent, decision: Decision) -> Plan
         ensures { result ≡ judged self seat digest first decision }
     {
         let phase = Phase::Voting;
         match decision {
-            Decision::Refused(_) => Plan {
+            Err(_) | Ok(None) => Plan {
                 effect: Effect::Count {
                     seat,
                     digest,
                     phase,
                 },
                 first,
-                second: Sent::Nothing,
-                verdict: Verdict::Taken,
+                second: None,
+                verdict: Ok(()),
             },
-            Decision::Undecided => Plan {
-                effect: Effect::Count {
-                    seat,
-                    digest,
-                    phase,
-                },
-                first,
-                second: Sent::Nothing,
-                verdict: Verdict::Taken,
-            },
-            Decision::Decided(chosen) => self.chosen_plan(seat, digest, first, chosen),
+            Ok(Some(chosen)) => self.chosen_plan(seat, digest, first, chosen),
         }
     }
 }

@@ -94,11 +94,7 @@ impl Effect {
 }
 
 // A message to send, but for the arrays of R, U and S, which are those of the controller after the step.
-#[derive(Clone, Copy)]
-pub enum Sent {
-    Nothing,
-    One(Head),
-}
+pub type Sent = Option<Head>;
 
 #[derive(Clone, Copy)]
 pub struct Plan {
@@ -114,9 +110,9 @@ pub fn refusal(why: Refusal) -> Plan
 {
     Plan {
         effect: Effect::Keep,
-        first: Sent::Nothing,
-        second: Sent::Nothing,
-        verdict: Verdict::Refused(why),
+        first: None,
+        second: None,
+        verdict: Err(why),
     }
 }
 
@@ -126,9 +122,9 @@ pub fn doing(effect: Effect) -> Plan
 {
     Plan {
         effect,
-        first: Sent::Nothing,
-        second: Sent::Nothing,
-        verdict: Verdict::Taken,
+        first: None,
+        second: None,
+        verdict: Ok(()),
     }
 }
 
@@ -138,9 +134,9 @@ pub(crate) fn sending(effect: Effect, head: Head) -> Plan
 {
     Plan {
         effect,
-        first: Sent::One(head),
-        second: Sent::Nothing,
-        verdict: Verdict::Taken,
+        first: Some(head),
+        second: None,
+        verdict: Ok(()),
     }
 }
 
@@ -150,9 +146,9 @@ pub(crate) fn sending_both(effect: Effect, one: Head, two: Head) -> Plan
 {
     Plan {
         effect,
-        first: Sent::One(one),
-        second: Sent::One(two),
-        verdict: Verdict::Taken,
+        first: Some(one),
+        second: Some(two),
+        verdict: Ok(()),
     }
 }
 
@@ -161,7 +157,7 @@ pub(crate) fn sending_after(effect: Effect, first: Sent, head: Head) -> Plan
     ensures { result ≡ afterwards effect head first }
 {
     match first {
-        Sent::Nothing => sending(effect, head),
-        Sent::One(one) => sending_both(effect, one, head),
+        None => sending(effect, head),
+        Some(one) => sending_both(effect, one, head),
     }
 }

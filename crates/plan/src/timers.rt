@@ -3,10 +3,10 @@ ghost use Rattle.std.specs.Prelude.{◌≡◌};
 ghost use Rattle.plan.specs.Timers.{asking, missing_runs, plan_due, plan_ends, plan_voting_ends};
 
 use crate::brief::{Brief, Phase};
-use crate::planned::{Effect, Plan, Sent, doing, refusal, sending, sending_both};
+use crate::planned::{Effect, Plan, doing, refusal, sending, sending_both};
 use message::Head;
 use units::mask::mask_end;
-use units::{Refusal, RoundLabel, Verdict};
+use units::{Refusal, RoundLabel};
 
 impl Brief {
     // The runs not held, as a mask.
@@ -101,9 +101,9 @@ impl Brief {
             Phase::Pending => refusal(Refusal::Closed),
             Phase::Voting => Plan {
                 effect: Effect::Go { phase: Phase::Idle },
-                first: Sent::Nothing,
-                second: Sent::Nothing,
-                verdict: Verdict::Refused(Refusal::Undecided),
+                first: None,
+                second: None,
+                verdict: Err(Refusal::Undecided),
             },
         }
     }

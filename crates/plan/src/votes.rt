@@ -58,12 +58,12 @@ impl Brief {
     {
         let phase = self.phase;
         match cast {
-            Ballot::Missing => doing(Effect::Count {
+            None => doing(Effect::Count {
                 seat: sender,
                 digest,
                 phase,
             }),
-            Ballot::Cast(e) => {
+            Some(e) => {
                 if e.same(digest) {
                     doing(Effect::Count {
                         seat: sender,

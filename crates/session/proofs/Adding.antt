@@ -1,4 +1,5 @@
 -- A LINE IN A RUN: what it leads to, by the way that the code takes. Assumes nothing.
+use Rattle.std.specs.Prelude.{Ok}
 use Prim.Native.Nat.{ℕ, ◌+◌, ◌-◌, ◌*◌, ◌≤◌, ◌<◌}
 use mir.Syntax.{w64}
 use mir.Val.{Fits}
@@ -11,8 +12,7 @@ use lib.ListN.{length, drop, length-drop}
 use borrow.Author.Tests.{eq-eqb, ne_eqb, le-leb, leb-true}
 use borrow.Rule.Slice.PartMut.{mid_of, put_mid}
 use Rattle.units.specs.declared.labels.RoundLabel.{RoundLabel}
-use Rattle.units.specs.declared.refusal.Verdict.{Verdict}
-use Rattle.units.specs.declared.refusal.Verdict.TheVariants.{Taken}
+use Rattle.units.specs.Refusal.{Verdict}
 use Rattle.units.specs.declared.settings.Numbers.{Numbers}
 use Rattle.units.specs.Limits.{line_top}
 use Rattle.message.specs.declared.head.Head.{Head}
@@ -82,7 +82,7 @@ module _ (input : List ℕ) (room : ℕ) where
 pub no_reading : (k : Controller) (head : Head) (v : Verdict) → AddedBy k head v More
 no_reading k head v s a run raw q = not_one q
 
-pub reading_added : (k : Controller) (head : Head) (v : Verdict) (label : RoundLabel) (run raw : ℕ) → v ≡ Taken → head ≡ Reading label run raw → {change : Change} → change ≡ reading_change k label run raw
+pub reading_added : (k : Controller) (head : Head) (v : Verdict) (label : RoundLabel) (run raw : ℕ) → v ≡ Ok tt → head ≡ Reading label run raw → {change : Change} → change ≡ reading_change k label run raw
     → AddedBy k head v change
 unfolding plan_line
 reading_added k head v label run raw t e c s a r w q = rw (t, e) (adds_one r w s k a label run raw (sym c ∙ q))

@@ -1,4 +1,5 @@
 -- DEMAND 1'S PREMISE CAN BE MET: settings in range, written line by line and fed, lead a new session past them, and a B to a running controller. Assumes nothing.
+use Rattle.std.specs.Prelude.{Ok}
 use Prim.Native.Nat.{ℕ, ◌+◌}
 use native.Mathlib.Omega.{arith}
 use mathlib.Core.Path.{◌≡◌, refl, sym, ap, subst, ◌∙◌}
@@ -9,7 +10,6 @@ use lib.ListN.{length, take, drop, length-append}
 use lib.Seq.{take-length, drop-length}
 use borrow.Author.Tests.{eqb-true}
 use Rattle.units.specs.declared.labels.RoundLabel.{RoundLabel}
-use Rattle.units.specs.declared.refusal.Verdict.TheVariants.{Taken}
 use Rattle.units.specs.declared.settings.Numbers.{Numbers}
 use Rattle.units.specs.Limits.{line_top}
 use Rattle.units.specs.Pick.{pick}
@@ -74,10 +74,10 @@ module _ (x : Session) (line : List ℕ) (s : Stands x []) (w : feed_at line + 1
   turned : line_turn x line ≡ quiet d
   turned = line_turn_lem x [] line s ∙ ap (λ (n : ℕ). turn x.core (take n line)) w ∙ ap (turn x.core) (take-length line) ∙ t
 
-  call : fed x line 0 ≡ record { next = after; took = length line; wrote = 0; verdict = Taken }
+  call : fed x line 0 ≡ record { next = after; took = length line; wrote = 0; verdict = Ok tt }
   call =
       fed_line x line 0 (λ e. omega arith) ∙ ap (λ (u : Turn). line_done x (feed_at line + 1) u 0) turned ∙ done_room x (feed_at line + 1) (quiet d) 0 (omega arith)
-      ∙ ap (λ (n : ℕ). record { next = after; took = n; wrote = 0; verdict = Taken }) w
+      ∙ ap (λ (n : ℕ). record { next = after; took = n; wrote = 0; verdict = Ok tt }) w
 
   after_stands : Stands after []
   after_stands = subst (λ (u : Turn). Stands (record { core = u.next; carry = record { len = 0; bytes = x.carry.bytes } }) []) turned (next_stands x [] line s)

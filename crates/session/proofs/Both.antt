@@ -1,4 +1,5 @@
 -- Two texts put into a lent buffer, the second first: both where there is room for both, else nothing. Assumes nothing.
+use Rattle.std.specs.Prelude.{Err, Ok}
 use Prim.Native.Nat.{ℕ, ◌+◌, ◌-◌, ◌≤◌, ◌<◌}
 use mathlib.Core.Path.{◌≡◌, refl, sym, ap, ◌∙◌}
 use mathlib.Core.List.{List, ◌++◌, append_assoc}
@@ -13,26 +14,25 @@ use Rattle.units.specs.Pick.{pick}
 use Rattle.fields.specs.Put.{put}
 use Rattle.fields.proofs.Cases.{by_lt, absurd_by}
 use Rattle.fields.proofs.Puts.{put_room, mid_rest, put_rest}
-use Rattle.lines.specs.declared.write.Written.{Written}
-use Rattle.lines.specs.declared.write.Written.TheVariants.{Done, Refused}
+use Rattle.lines.specs.Writing.{Written}
 use Rattle.lines.specs.Writing.{buffer_of}
 use Rattle.session.specs.Feeding.{done_length}
 use Rattle.session.proofs.Writes.{Puts}
 
 -- a text in a buffer with room, and with too little
-pub puts_room : (t before : List ℕ) → length t ≤ length before → Puts t before (t ++ drop (length t) before) (Done (length t))
+pub puts_room : (t before : List ℕ) → length t ≤ length before → Puts t before (t ++ drop (length t) before) (Ok (length t))
 unfolding pick
 puts_room t before h = rw (le-ltb (length before) (length t) h) (refl, refl)
 
-pub puts_short : (t before : List ℕ) → length before < length t → Puts t before before (Refused Room)
+pub puts_short : (t before : List ℕ) → length before < length t → Puts t before before (Err Room)
 unfolding pick
 puts_short t before h = rw (lt-ltb (length before) (length t) h) (refl, refl)
 
 module _ (t before after : List ℕ) (r : Written) (p : Puts t before after r) where
-  room_is : length t ≤ length before → (r ≡ Done (length t)) × (after ≡ t ++ drop (length t) before)
+  room_is : length t ≤ length before → (r ≡ Ok (length t)) × (after ≡ t ++ drop (length t) before)
   room_is h = let q = puts_room t before h in (p.0 ∙ sym q.0, p.1 ∙ sym q.1)
 
-  short_is : length before < length t → (r ≡ Refused Room) × (after ≡ before)
+  short_is : length before < length t → (r ≡ Err Room) × (after ≡ before)
   short_is h = let q = puts_short t before h in (p.0 ∙ sym q.0, p.1 ∙ sym q.1)
 
   -- the length of a text that had room
@@ -40,21 +40,21 @@ module _ (t before after : List ℕ) (r : Written) (p : Puts t before after r) w
   length_done n h e = e ∙ ap done_length (room_is h).0
 
   -- refused, so there was too little room
-  refused_is : (why : Refusal) → r ≡ Refused why → (length before < length t) × (Refused why ≡ Refused Room) × (after ≡ before)
+  refused_is : (why : Refusal) → r ≡ Err why → (length before < length t) × (◌≡◌ {A = Written} (Err why) (Err Room)) × (after ≡ before)
   refused_is why e = by_lt (length before) (length t) (λ h. let q = short_is h in (h, sym e ∙ q.0, q.1)) (λ h. not_done (sym (room_is h).0 ∙ e))
     where
-      not_done : {A : Type 0} {n : ℕ} {w : Refusal} → Done n ≡ Refused w → A
+      not_done : {A : Type 0} {n : ℕ} {w : Refusal} → ◌≡◌ {A = Written} (Ok n) (Err w) → A
       not_done k = absurd_by (cc)
 
-  done_is : (n : ℕ) → r ≡ Done n → (length t ≤ length before) × (n ≡ length t) × (after ≡ t ++ drop (length t) before)
+  done_is : (n : ℕ) → r ≡ Ok n → (length t ≤ length before) × (n ≡ length t) × (after ≡ t ++ drop (length t) before)
   done_is n e = by_lt (length before) (length t) (λ h. not_refused (sym (short_is h).0 ∙ e)) (λ h. let q = room_is h in (h, ap done_length (sym e ∙ q.0), q.1))
     where
-      not_refused : {A : Type 0} {n : ℕ} {w : Refusal} → Refused w ≡ Done n → A
+      not_refused : {A : Type 0} {n : ℕ} {w : Refusal} → ◌≡◌ {A = Written} (Err w) (Ok n) → A
       not_refused k = absurd_by (cc)
 
 module _ (t u out : List ℕ) (n : ℕ) (ne : n ≡ length t) where
   -- no room for the first
-  pub both_short : length out < n → Puts (t ++ u) out out (Refused Room)
+  pub both_short : length out < n → Puts (t ++ u) out out (Err Room)
   both_short h = puts_short (t ++ u) out (let l = length-append t u in omega arith)
 
   module _ (h : n ≤ length out) (after : List ℕ) (r : Written) (p : Puts u (mid_of n (length out - n) out) after r) where
@@ -62,14 +62,14 @@ module _ (t u out : List ℕ) (n : ℕ) (ne : n ≡ length t) where
     mid_length = let a = length-drop n out in length-take-le (length out - n) (drop n out) (omega arith)
 
     -- no room for the second
-    pub both_refused : (why : Refusal) → r ≡ Refused why → Puts (t ++ u) out (put_mid n (length out - n) out after) (Refused why)
+    pub both_refused : (why : Refusal) → r ≡ Err why → Puts (t ++ u) out (put_mid n (length out - n) out after) (Err why)
     both_refused why e =
         let q = refused_is u (mid_of n (length out - n) out) after r p why e in
         let s = puts_short (t ++ u) out (let l = length-append t u in let m = mid_length in let k = q.0 in omega arith) in
         (q.1 ∙ s.0, ap (put_mid n (length out - n) out) q.2 ∙ put_same n (length out - n) out ∙ s.1)
 
     -- room for both
-    module _ (more : ℕ) (e : r ≡ Done more) where
+    module _ (more : ℕ) (e : r ≡ Ok more) where
       abbrev Q : (length u ≤ length (mid_of n (length out - n) out)) × (more ≡ length u) × (after ≡ u ++ drop (length u) (mid_of n (length out - n) out))
       Q = done_is u (mid_of n (length out - n) out) after r p more e
 
@@ -85,13 +85,13 @@ module _ (t u out : List ℕ) (n : ℕ) (ne : n ≡ length t) where
           Q.2 ∙ ap (λ w. u ++ drop (length u) w) (mid_rest n out) ∙ ap (λ w. u ++ w) (drop-drop (length u) n out ∙ ap (λ k. drop k out) g)
 
       pub both_done : (line zeros last : List ℕ) → line ≡ buffer_of t zeros → length t ≤ length zeros → last ≡ put (put_mid n (length out - n) out after) 0 (take n line)
-          → Puts (t ++ u) out last (Done (n + more))
+          → Puts (t ++ u) out last (Ok (n + more))
       both_done line zeros last b z l =
           let s = puts_room (t ++ u) out fits in
           let first : take n line ≡ t = ap (take n) (b ∙ sym (puts_room t zeros z).1) ∙ take_at t (drop (length t) zeros) n (sym ne) in
           let whole : put_mid n (length out - n) out after ≡ take n out ++ (u ++ drop (length (t ++ u)) out) = put_rest n out after h ∙ ap (λ w. take n out ++ w) tail in
           let laid : last ≡ t ++ (u ++ drop (length (t ++ u)) out) = l ∙ ap (λ w. put w 0 (take n line)) whole ∙ ap (put _ 0) first ∙ at_front in
-          (ap Done (ap (λ k. k + more) ne ∙ ap (λ k. length t + k) Q.1 ∙ sym (length-append t u)) ∙ s.0, laid ∙ sym (append_assoc t u _) ∙ s.1)
+          (ap Ok (ap (λ k. k + more) ne ∙ ap (λ k. length t + k) Q.1 ∙ sym (length-append t u)) ∙ s.0, laid ∙ sym (append_assoc t u _) ∙ s.1)
         where
           at_front : put (take n out ++ (u ++ drop (length (t ++ u)) out)) 0 t ≡ t ++ (u ++ drop (length (t ++ u)) out)
           at_front =

@@ -1,4 +1,5 @@
 -- DEMAND 1 ON BYTES: after any bytes whatever, in any pieces, a bad line leaves everything as it was but for its X, save where a refusal is the round's end. Assumes nothing.
+use Rattle.std.specs.Prelude.{Err, Ok}
 use Prim.Native.Nat.{ℕ, ◌+◌, ◌≤◌, ◌<◌}
 use native.Mathlib.Omega.{arith}
 use mathlib.Core.Path.{◌≡◌, refl, sym, ap, subst, ◌∙◌}
@@ -6,7 +7,6 @@ use mathlib.Core.Bool.{true, false, true≢false}
 use mathlib.Core.List.{List, [], ◌++◌}
 use lib.ListN.{length, drop}
 use Rattle.units.specs.declared.refusal.Refusal.{Refusal}
-use Rattle.units.specs.declared.refusal.Verdict.TheVariants.{Taken, Refused}
 use Rattle.message.specs.declared.head.Head.{Head}
 use Rattle.fields.specs.Text.{line_feed, lacks}
 use Rattle.fields.specs.Lines.{feed_at, unfinished, line_at, lines_of}
@@ -39,13 +39,13 @@ all_else (by_age v) = record { phase = refl; own = refl; label = refl; state = r
 -- A CALL WITH A WHOLE LINE AND ROOM
 module _ (x : Session) (piece buf : List ℕ) (n : feed_at piece ≡ length piece → ⊥) (t : Turn) (e : line_turn x piece ≡ t) where
   abbrev after : Fed
-  after = record { next = record { core = t.next; carry = record { len = 0; bytes = x.carry.bytes } }; took = feed_at piece + 1; wrote = length t.text; verdict = Taken }
+  after = record { next = record { core = t.next; carry = record { len = 0; bytes = x.carry.bytes } }; took = feed_at piece + 1; wrote = length t.text; verdict = Ok tt }
 
   fed_is : length t.text ≤ length buf → fed x piece (length buf) ≡ after
   fed_is l =
       let z = ap {B = ℕ} (λ (u : Turn). length u.text) e in
       fed_line x piece (length buf) n ∙ done_room x (feed_at piece + 1) (line_turn x piece) (length buf) (omega arith)
-      ∙ ap (λ (u : Turn). record { next = record { core = u.next; carry = record { len = 0; bytes = x.carry.bytes } }; took = feed_at piece + 1; wrote = length u.text; verdict = Taken }) e
+      ∙ ap (λ (u : Turn). record { next = record { core = u.next; carry = record { len = 0; bytes = x.carry.bytes } }; took = feed_at piece + 1; wrote = length u.text; verdict = Ok tt }) e
 
   text_is : fed_text x piece ≡ t.text
   text_is = text_line x piece n ∙ ap (λ (u : Turn). u.text) e
@@ -57,7 +57,7 @@ module _ (x : Session) (p : List ℕ) (s : Stands x p) (past : x.core.stage ≡ 
   abbrev line : List ℕ
   line = line_at p piece
 
-  unmoved : (why : Refusal) → verdict_of x.core line ≡ Refused why → ends_round why ≡ false → length (refusal_line why) ≤ length buf → Unmoved x piece buf why
+  unmoved : (why : Refusal) → verdict_of x.core line ≡ Err why → ends_round why ≡ false → length (refusal_line why) ≤ length buf → Unmoved x piece buf why
   unmoved why v k l =
       let q = refused_turn x.core line why past k v in
       let e = line_turn_lem x p piece s ∙ q in
@@ -72,7 +72,7 @@ module _ (x : Session) (p : List ℕ) (s : Stands x p) (past : x.core.stage ≡ 
             ∙ ap {B = List ℕ} (λ (r : Fed). answers r.next.core (lines_of later)) f;
       }
 
-  over : (why : Refusal) → verdict_of x.core line ≡ Refused why → ends_round why ≡ true → length (answer_text (numbers_in x.core) (step_by x.core line)) ≤ length buf → RoundOver x line piece buf why
+  over : (why : Refusal) → verdict_of x.core line ≡ Err why → ends_round why ≡ true → length (answer_text (numbers_in x.core) (step_by x.core line)) ≤ length buf → RoundOver x line piece buf why
   over why v k l =
       let q = over_turn x.core line why k past v in
       let e = line_turn_lem x p piece s ∙ q.turned in

@@ -1,4 +1,5 @@
 -- DEMAND 2 AS ONE STATEMENT: each clause is a law that stands elsewhere, under the sentence that it answers. Assumes nothing.
+use Rattle.std.specs.Prelude.{Ok}
 use Prim.Native.Nat.{ℕ, ◌+◌, ◌≤◌}
 use mathlib.Core.Path.{◌≡◌, refl, ap, subst}
 use mathlib.Core.Bool.{true}
@@ -6,7 +7,6 @@ use mathlib.Core.List.{List, ◌++◌}
 use lib.Ieee.{Float}
 use lib.ListN.{length, take}
 use Rattle.units.specs.declared.labels.RoundLabel.{RoundLabel}
-use Rattle.units.specs.declared.refusal.Verdict.TheVariants.{Taken}
 use Rattle.units.specs.declared.settings.Group.{Group}
 use Rattle.units.specs.declared.settings.Numbers.{Numbers}
 use Rattle.units.specs.Labels.{before, issued_state}
@@ -25,7 +25,7 @@ use Rattle.message.specs.declared.settings.Settings.{Settings}
 use Rattle.message.specs.declared.value.Message.{Message}
 use Rattle.message.specs.Message.{message_fits}
 use Rattle.message.specs.Settings.{settings_fit}
-use Rattle.plan.specs.declared.planned.Sent.{Sent}
+use Rattle.plan.specs.Plan.{Sent}
 use Rattle.plan.specs.Votes.{possessed}
 use Rattle.lines.specs.declared.settle.Settling.{Settling}
 use Rattle.lines.specs.Reading.{read_line}
@@ -61,11 +61,11 @@ use Rattle.session.proofs.Sent.{sent_back}
 use Rattle.session.proofs.Whole.{whole}
 
 -- a running core's turn is a step
-turn_at : (c : Core) (line : List ℕ) (stage : Stage) → stage ≡ Running → (read_line (group_in c) line).verdict ≡ Taken → turn_by stepping c line stage ≡ step_turn c (step_by c line)
+turn_at : (c : Core) (line : List ℕ) (stage : Stage) → stage ≡ Running → (read_line (group_in c) line).verdict ≡ Ok tt → turn_by stepping c line stage ≡ step_turn c (step_by c line)
 unfolding turn_by
 turn_at c line stage e t = rw e (hears_taken (stepping c) c (spoken_in c line) t)
 
-pub turn_steps : (c : Core) (line : List ℕ) → c.stage ≡ Running → (read_line (group_in c) line).verdict ≡ Taken → turn c line ≡ step_turn c (step_by c line)
+pub turn_steps : (c : Core) (line : List ℕ) → c.stage ≡ Running → (read_line (group_in c) line).verdict ≡ Ok tt → turn c line ≡ step_turn c (step_by c line)
 turn_steps c line e t = turn_at c line c.stage e t
 
 -- what is issued for `chosen` by the controller c that took the message h: why it is that digest, and that the state after the step and the targets of its S are
@@ -131,7 +131,7 @@ pub record Demand2 : Type 0 where
   pub settings_spelling : (lines : List (List ℕ)) (end : Settling) → settle_all lines settling_start ≡ whole_at end → SettingsSpelt lines end.settings
   -- "Every step does what the Quarts report and document 01 define, bit for bit": a line that is read by a running controller is one step of `stepped`,
   -- next state and answer ..
-  pub each_step : (c : Core) (line : List ℕ) → c.stage ≡ Running → (read_line (group_in c) line).verdict ≡ Taken → turn c line ≡ step_turn c (step_by c line)
+  pub each_step : (c : Core) (line : List ℕ) → c.stage ≡ Running → (read_line (group_in c) line).verdict ≡ Ok tt → turn c line ≡ step_turn c (step_by c line)
   -- .. whenever an S goes out, it names what the votes held are decided for and what is here, and the state after it and its targets are filter's `computed` in IEEE 754 binary64, of what the controller held ..
   pub each_issue : (s : Numbers) (c : Controller) (a : Message) (sender : ℕ) (label : RoundLabel) (chosen : Digest) → IsSent (stepped s c a) (Setpoints sender label chosen)
       → Issued s c a.head chosen (stepped s c a).next (sent_message s (stepped s c a).next (Setpoints sender label chosen)).targets

@@ -4,13 +4,13 @@ use mathlib.Core.Path.{◌≡◌, sym, ap, subst, ◌∙◌}
 use mathlib.Core.List.{List}
 use lib.ListN.{length, take}
 use borrow.Author.Tests.{lt-ltb, le-ltb}
-use Rattle.units.specs.declared.refusal.Verdict.{Verdict}
+use Rattle.units.specs.Refusal.{Verdict}
 use Rattle.units.specs.Pick.{pick}
 use Rattle.fields.proofs.Cases.{by_lt}
 use Rattle.fields.specs.Lines.{feed_at}
 use Rattle.fields.specs.Cut.{line_ending, line_in}
 use Rattle.lines.specs.declared.read.Line.{Line}
-use Rattle.lines.specs.declared.write.Written.{Written}
+use Rattle.lines.specs.Writing.{Written}
 use Rattle.lines.specs.Writing.{buffer_of}
 use Rattle.session.specs.declared.feed.Fed.{Fed}
 use Rattle.session.specs.declared.feed.Session.{Session}

@@ -1,11 +1,11 @@
 -- A CORE STAYS IN RANGE: from the start on, whatever line comes. Assumes nothing.
+use Rattle.std.specs.Prelude.{Err, Ok}
 use Prim.Native.Nat.{ℕ}
 use mathlib.Core.Path.{◌≡◌, refl, ◌∙◌}
 use mathlib.Core.Bool.{true}
 use mathlib.Core.List.{List, [], ◌∷◌, ◌++◌, append_assoc}
 use lib.Dec.{ltb}
-use Rattle.units.specs.declared.refusal.Verdict.{Verdict}
-use Rattle.units.specs.declared.refusal.Verdict.TheVariants.{Taken, Refused}
+use Rattle.units.specs.Refusal.{Verdict}
 use Rattle.units.specs.Labels.{floor_fits}
 use Rattle.units.specs.Settings.{numbers_fit}
 use Rattle.units.proofs.Every.{and_left, and_right}
@@ -79,8 +79,8 @@ waits_fits c head =
 hears_fits : (c : Core) (line : List ℕ) (go : Message → Turn) (v : Verdict) → (read_line (group_in c) line).verdict ≡ v → CoreFits c
     → ((a : Message) → message_fits (group_in c) a ≡ true → CoreFits (go a).next) → CoreFits (hears go c (read_line (group_in c) line).message v).next
 unfolding hears
-hears_fits c line go Taken e f g = g (read_line (group_in c) line).message (read_fits (group_in c) line e)
-hears_fits c line go (Refused why) e f g = f
+hears_fits c line go (Ok tt) e f g = g (read_line (group_in c) line).message (read_fits (group_in c) line e)
+hears_fits c line go (Err why) e f g = f
 
 turn_fits_at : (c : Core) (line : List ℕ) (stage : Stage) → c.stage ≡ stage → FitsAt c stage → CoreFits (turn_by stepping c line stage).next
 unfolding turn_by

@@ -8,7 +8,7 @@ use lib.Dec.{leb, ltb}
 use lib.ListN.{length, take, drop, length-drop}
 use borrow.Author.Tests.{lt-ltb, le-ltb, ltb-true, le-leb, leb-true}
 use borrow.Rule.Slice.PartMut.{mid_of, put_mid}
-use Rattle.units.specs.declared.refusal.Verdict.{Verdict}
+use Rattle.units.specs.Refusal.{Verdict}
 use Rattle.units.specs.Limits.{line_top}
 use Rattle.units.proofs.Every.{and_left, and_right}
 use Rattle.fields.proofs.Cases.{by_lt}

@@ -1,4 +1,5 @@
 -- DOCUMENT 01'S 'The station program', sentence by sentence: what the definition of `turn` comes to. Assumes nothing.
+use Rattle.std.specs.Prelude.{Ok}
 use Prim.Native.Nat.{ℕ, ◌<◌}
 use mathlib.Core.Path.{◌≡◌, refl, ap, ◌∙◌}
 use mathlib.Core.List.{List, [], ◌∷◌, ◌++◌}
@@ -7,7 +8,6 @@ use lib.ListN.{length}
 use Rattle.units.specs.declared.labels.RoundLabel.{RoundLabel}
 use Rattle.units.specs.declared.refusal.Refusal.{Refusal}
 use Rattle.units.specs.declared.refusal.Refusal.TheVariants.{Closed, Long}
-use Rattle.units.specs.declared.refusal.Verdict.TheVariants.{Taken}
 use Rattle.units.specs.Limits.{line_top}
 use Rattle.units.proofs.InRange.{group_fits_lem}
 use Rattle.message.specs.declared.head.Head.TheVariants.{Start}
@@ -56,21 +56,21 @@ pub long_once : (c : Core) (line : List ℕ) → (c.stage ≡ AtSettings → ⊥
 long_once c line p q f h = over_at c line c.stage p q f h
 
 -- "Before the first B another line that passes 1 to 6 is 9", and changes nothing
-waits_at : (c : Core) (line : List ℕ) (stage : Stage) → stage ≡ Waiting → (read_line (group_in c) line).verdict ≡ Taken → as_start (spoken_in c line).head ≡ none → turn_by stepping c line stage ≡ refusing c Closed
+waits_at : (c : Core) (line : List ℕ) (stage : Stage) → stage ≡ Waiting → (read_line (group_in c) line).verdict ≡ Ok tt → as_start (spoken_in c line).head ≡ none → turn_by stepping c line stage ≡ refusing c Closed
 unfolding turn_by hears
 waits_at c line stage s v n = rw (s, v) (waits_other c (spoken_in c line).head n)
 
-pub waits_closed : (c : Core) (line : List ℕ) → c.stage ≡ Waiting → (read_line (group_in c) line).verdict ≡ Taken → as_start (spoken_in c line).head ≡ none → turn c line ≡ refusing c Closed
+pub waits_closed : (c : Core) (line : List ℕ) → c.stage ≡ Waiting → (read_line (group_in c) line).verdict ≡ Ok tt → as_start (spoken_in c line).head ≡ none → turn c line ≡ refusing c Closed
 waits_closed c line s v n = waits_at c line c.stage s v n
 
 -- B is what is waited for
-pub first_start : (c : Core) (line : List ℕ) (own : ℕ) (floor : RoundLabel) → c.stage ≡ Waiting → (read_line (group_in c) line).verdict ≡ Taken → (spoken_in c line).head ≡ Start own floor
+pub first_start : (c : Core) (line : List ℕ) (own : ℕ) (floor : RoundLabel) → c.stage ≡ Waiting → (read_line (group_in c) line).verdict ≡ Ok tt → (spoken_in c line).head ≡ Start own floor
     → turn c line ≡ quiet (running_with c (start_of (numbers_in c) own floor))
 unfolding turn_by hears waits_for
 first_start c line own floor s v e = rw (s, v, e)
 
 -- "a later B restarts"
-pub later_start : (c : Core) (line : List ℕ) (own : ℕ) (floor : RoundLabel) → c.stage ≡ Running → CoreFits c → (read_line (group_in c) line).verdict ≡ Taken → (spoken_in c line).head ≡ Start own floor
+pub later_start : (c : Core) (line : List ℕ) (own : ℕ) (floor : RoundLabel) → c.stage ≡ Running → CoreFits c → (read_line (group_in c) line).verdict ≡ Ok tt → (spoken_in c line).head ≡ Start own floor
     → turn c line ≡ quiet (running_with c (start_of (numbers_in c) own floor))
 unfolding answer_text sent_text verdict_text planned applied
 later_start c line own floor s f v e =

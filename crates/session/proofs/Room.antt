@@ -1,4 +1,5 @@
 -- ROOM: two lines' room is always enough, whatever the session; with less nothing is taken, written or changed. Assumes nothing.
+use Rattle.std.specs.Prelude.{Err, None, Ok, Some}
 use Prim.Native.Nat.{ℕ, ◌+◌, ◌*◌, ◌≤◌, ◌<◌}
 use native.Mathlib.Omega.{arith}
 use mathlib.Core.Path.{◌≡◌, refl, sym, ap, ◌∙◌}
@@ -8,8 +9,7 @@ use lib.ListN.{length, take, drop, length-append, length-drop}
 use lib.Seq.{take_at}
 use borrow.Author.Tests.{eqb-true, eqb-false, eq-eqb, ne_eqb, lt-ltb, le-ltb}
 use Rattle.units.specs.declared.refusal.Refusal.TheVariants.{Closed, Room}
-use Rattle.units.specs.declared.refusal.Verdict.{Verdict}
-use Rattle.units.specs.declared.refusal.Verdict.TheVariants.{Taken, Refused}
+use Rattle.units.specs.Refusal.{Verdict}
 use Rattle.units.specs.declared.settings.Numbers.{Numbers}
 use Rattle.units.specs.Limits.{line_top}
 use Rattle.units.specs.Pick.{pick}
@@ -17,8 +17,7 @@ use Rattle.message.specs.declared.head.Head.{Head}
 use Rattle.message.specs.declared.value.Message.{Message}
 use Rattle.message.specs.Message.{message_fits}
 use Rattle.message.proofs.Views.{by_kind, start_seen}
-use Rattle.plan.specs.declared.planned.Sent.{Sent}
-use Rattle.plan.specs.declared.planned.Sent.TheVariants.{Nothing, One}
+use Rattle.plan.specs.Plan.{Sent}
 use Rattle.fields.proofs.Cases.{by_test, by_lt}
 use Rattle.fields.proofs.Texts.{until_short}
 use Rattle.fields.specs.Cut.{line_in}
@@ -44,8 +43,8 @@ use Rattle.session.proofs.Both.{puts_room, puts_short}
 -- HOW LONG AN ANSWER IS: two lines at most
 pub verdict_short : (v : Verdict) → length (verdict_text v) ≤ line_top
 unfolding verdict_text
-verdict_short Taken = omega arith
-verdict_short (Refused why) = refusal_room why
+verdict_short (Ok tt) = omega arith
+verdict_short (Err why) = refusal_room why
 
 pub fit_short : (s : Numbers) (c : Controller) (head : Head) → length (fit_text s c head) ≤ line_top
 unfolding fit_text pick
@@ -55,13 +54,13 @@ fit_short s c head =
 
 pub rest_short : (s : Numbers) (c : Controller) (v : Verdict) (second : Sent) → length (rest_text s c v second) ≤ line_top
 unfolding rest_text
-rest_short s c v Nothing = verdict_short v
-rest_short s c v (One head) = fit_short s c head
+rest_short s c v None = verdict_short v
+rest_short s c v (Some head) = fit_short s c head
 
 pub put_short : (s : Numbers) (c : Controller) (second : Sent) (v : Verdict) (first : Sent) → length (put_text s c second v first) ≤ 2 * line_top
 unfolding put_text
-put_short s c second v Nothing = let a = verdict_short v in omega arith
-put_short s c second v (One head) =
+put_short s c second v None = let a = verdict_short v in omega arith
+put_short s c second v (Some head) =
     let a = length-append (fit_text s c head) (rest_text s c v second) in
     let b = fit_short s c head in
     let d = rest_short s c v second in omega arith
@@ -81,8 +80,8 @@ waits_short c head = by_kind (λ (h : Head). length (waits_for c h).text ≤ 2 *
 
 hears_short : (go : Message → Turn) (c : Core) (a : Message) (v : Verdict) → length (go a).text ≤ 2 * line_top → length (hears go c a v).text ≤ 2 * line_top
 unfolding hears
-hears_short go c a Taken h = h
-hears_short go c a (Refused why) h = let b = refusal_room why in omega arith
+hears_short go c a (Ok tt) h = h
+hears_short go c a (Err why) h = let b = refusal_room why in omega arith
 
 turn_short : (c : Core) (line : List ℕ) (stage : Stage) → length (turn_by advancing c line stage).text ≤ 2 * line_top
 unfolding turn_by
@@ -116,11 +115,11 @@ module _ (x : Session) (piece : List ℕ) where
   text_line n = rw (ne_eqb (feed_at piece) (length piece) n)
 
 module _ (x : Session) (end : ℕ) (t : Turn) (room : ℕ) where
-  pub done_room : length t.text ≤ room → line_done x end t room ≡ record { next = record { core = t.next; carry = record { len = 0; bytes = x.carry.bytes } }; took = end; wrote = length t.text; verdict = Taken }
+  pub done_room : length t.text ≤ room → line_done x end t room ≡ record { next = record { core = t.next; carry = record { len = 0; bytes = x.carry.bytes } }; took = end; wrote = length t.text; verdict = Ok tt }
   unfolding pick
   done_room h = rw (le-ltb room (length t.text) h)
 
-  pub done_none : room < length t.text → line_done x end t room ≡ record { next = x; took = 0; wrote = 0; verdict = Refused Room }
+  pub done_none : room < length t.text → line_done x end t room ≡ record { next = x; took = 0; wrote = 0; verdict = Err Room }
   unfolding pick
   done_none h = rw (lt-ltb room (length t.text) h)
 
@@ -135,7 +134,7 @@ front_none : (bytes buf : List ℕ) → length buf < length bytes → buffer_of 
 front_none bytes buf h = sym (puts_short bytes buf h).1
 
 -- TWO LINES' ROOM IS ENOUGH for any call
-pub room : (x : Session) (piece : List ℕ) (lent : ℕ) → 2 * line_top ≤ lent → (fed x piece lent).verdict ≡ Taken
+pub room : (x : Session) (piece : List ℕ) (lent : ℕ) → 2 * line_top ≤ lent → (fed x piece lent).verdict ≡ Ok tt
 room x piece lent h =
     by_test (eqb (feed_at piece) (length piece))
     (λ e. rw (fed_holds x piece lent (eqb-true (feed_at piece) (length piece) e)))
@@ -155,7 +154,7 @@ progress x piece lent h k =
 
 -- 16: WITH TOO LITTLE ROOM nothing is taken, written or changed, the lent buffer with it
 pub short : (x : Session) (piece buf : List ℕ) → length buf < length (fed_text x piece)
-    → (fed x piece (length buf) ≡ record { next = x; took = 0; wrote = 0; verdict = Refused Room }) × (buffer_of (fed_text x piece) buf ≡ buf)
+    → (fed x piece (length buf) ≡ record { next = x; took = 0; wrote = 0; verdict = Err Room }) × (buffer_of (fed_text x piece) buf ≡ buf)
 short x piece buf h =
     by_test (eqb (feed_at piece) (length piece))
     (λ e. let z = ap {B = ℕ} (λ (l : List ℕ). length l) (text_none x piece (eqb-true (feed_at piece) (length piece) e)) in absurd (omega arith))

@@ -1,11 +1,11 @@
 -- THE CODE'S TURN IS THE DOCUMENT'S on a core in range: nothing is out of range, every message sent is written, and there is no third line. Assumes nothing.
+use Rattle.std.specs.Prelude.{Err, None, Ok, Some}
 use Prim.Native.Nat.{ℕ}
 use mathlib.Core.Path.{◌≡◌, refl, sym, ap, ◌∙◌}
 use mathlib.Core.Bool.{true}
 use mathlib.Core.List.{List, ◌++◌, append-nil}
 use mathlib.Core.Logic.{◌⊎◌, inl, inr}
-use Rattle.units.specs.declared.refusal.Verdict.{Verdict}
-use Rattle.units.specs.declared.refusal.Verdict.TheVariants.{Taken, Refused}
+use Rattle.units.specs.Refusal.{Verdict}
 use Rattle.units.specs.declared.settings.Numbers.{Numbers}
 use Rattle.units.specs.Pick.{pick}
 use Rattle.units.specs.Settings.{numbers_fit}
@@ -13,8 +13,7 @@ use Rattle.units.proofs.Every.{absurd_by}
 use Rattle.message.specs.declared.head.Head.{Head}
 use Rattle.message.specs.declared.value.Message.{Message}
 use Rattle.message.specs.Message.{message_fits}
-use Rattle.plan.specs.declared.planned.Sent.{Sent}
-use Rattle.plan.specs.declared.planned.Sent.TheVariants.{Nothing, One}
+use Rattle.plan.specs.Plan.{Sent}
 use Rattle.lines.specs.Reading.{read_line}
 use Rattle.lines.specs.Writing.{spell_line}
 use Rattle.lines.proofs.RoundTrip.{read_fits}
@@ -38,14 +37,14 @@ step_same s c a f g h = rw (f, g, h)
 
 -- up to two lines, all in range, with no gap, and a refusal after one at most
 module _ (s : Numbers) (n : Controller) where
-  texts : (first second : Sent) (v : Verdict) → ((head : Head) → (first ≡ One head) ⊎ (second ≡ One head) → message_fits s.group (sent_message s n head) ≡ true)
-      → (first ≡ Nothing → second ≡ Nothing) → ((head : Head) → second ≡ One head → v ≡ Taken)
+  texts : (first second : Sent) (v : Verdict) → ((head : Head) → (first ≡ Some head) ⊎ (second ≡ Some head) → message_fits s.group (sent_message s n head) ≡ true)
+      → (first ≡ None → second ≡ None) → ((head : Head) → second ≡ Some head → v ≡ Ok tt)
       → put_text s n second v first ≡ sent_text s n first ++ (sent_text s n second ++ verdict_text v)
   unfolding put_text rest_text fit_text sent_text verdict_text pick
-  texts Nothing Nothing v fit order two = refl
-  texts Nothing (One k) v fit order two = let e = order refl in absurd_by (cc)
-  texts (One h) Nothing v fit order two = rw (fit h (inl refl))
-  texts (One h) (One k) v fit order two =
+  texts None None v fit order two = refl
+  texts None (Some k) v fit order two = let e = order refl in absurd_by (cc)
+  texts (Some h) None v fit order two = rw (fit h (inl refl))
+  texts (Some h) (Some k) v fit order two =
       rw (fit h (inl refl), fit k (inr refl), two k refl) (ap (λ (l : List ℕ). spell_line s.group (sent_message s n h) ++ l) (sym (append-nil (spell_line s.group (sent_message s n k)))))
 
 advancing_same : (c : Core) (a : Message) → numbers_fit (numbers_in c) ≡ true → controller_fits (numbers_in c) c.controller ≡ true → message_fits (group_in c) a ≡ true → advancing c a ≡ stepping c a
@@ -60,8 +59,8 @@ advancing_same c a f g h =
 hears_same : (c : Core) (line : List ℕ) (v : Verdict) → (read_line (group_in c) line).verdict ≡ v → FitsAt c Running
     → hears (advancing c) c (read_line (group_in c) line).message v ≡ hears (stepping c) c (read_line (group_in c) line).message v
 unfolding hears
-hears_same c line Taken e f = advancing_same c (read_line (group_in c) line).message f.0 f.1 (read_fits (group_in c) line e)
-hears_same c line (Refused why) e f = refl
+hears_same c line (Ok tt) e f = advancing_same c (read_line (group_in c) line).message f.0 f.1 (read_fits (group_in c) line e)
+hears_same c line (Err why) e f = refl
 
 same_at : (c : Core) (line : List ℕ) (stage : Stage) → FitsAt c stage → turn_by advancing c line stage ≡ turn_by stepping c line stage
 unfolding turn_by

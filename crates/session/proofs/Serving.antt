@@ -1,4 +1,5 @@
 -- A PIECE SERVED: what it takes and writes, and that it is a run of calls of `feed`, each lent the rest of the buffer. Assumes nothing.
+use Rattle.std.specs.Prelude.{Err, Ok}
 use Prim.Native.Nat.{ℕ, ◌+◌, ◌-◌, ◌*◌, ◌≤◌}
 use native.Mathlib.Omega.{arith}
 use mathlib.Core.Path.{◌≡◌, refl, sym, ap, ap₂, subst, ◌∙◌}
@@ -9,8 +10,7 @@ use lib.ListN.{length, take, drop, length-append, length-drop, take-append-drop}
 use lib.Seq.{drop-drop, drop_at, take-add, take_at}
 use borrow.Author.Tests.{eqb-true}
 use borrow.Rule.Slice.PartMut.{mid_of, put_mid}
-use Rattle.units.specs.declared.refusal.Verdict.{Verdict}
-use Rattle.units.specs.declared.refusal.Verdict.TheVariants.{Taken, Refused}
+use Rattle.units.specs.Refusal.{Verdict}
 use Rattle.units.specs.declared.settings.Numbers.{Numbers}
 use Rattle.message.specs.declared.value.Message.{Message}
 use Rattle.units.specs.Limits.{line_top}
@@ -205,8 +205,8 @@ module _ (c : Core) (held : Carry) where
       heard : (a : Message) (v : Verdict)
           → hears (advancing (running_with c k)) (running_with c k) a v
           ≡ record { next = running_with c (carried_out s k a (plan_line s k a a.head v)).next; text = answer_put s (carried_out s k a (plan_line s k a a.head v)) }
-      heard a Taken = refl
-      heard a (Refused why) = refl
+      heard a (Ok tt) = refl
+      heard a (Err why) = refl
 
   line_exact : (k : Controller) (piece : List ℕ) (room : ℕ) → goes_on piece room ≡ true
       → Feeds (at_line c held k) (take (line_run s k piece room).took piece) (line_run s k piece room).text (at_line c held (line_run s k piece room).next)
@@ -217,7 +217,7 @@ module _ (c : Core) (held : Carry) where
       let w = goes_whole piece room g in
       let n : feed_at piece ≡ length piece → ⊥ = λ q. absurd (omega arith) in
       let l = line_is k piece room in
-      let F : fed x piece room ≡ record { next = at_line c held r.next; took = r.took; wrote = length r.text; verdict = Taken } =
+      let F : fed x piece room ≡ record { next = at_line c held r.next; took = r.took; wrote = length r.text; verdict = Ok tt } =
       fed_line x piece room n ∙ ap (λ (t : Turn). line_done x (feed_at piece + 1) t room) l ∙ done_room x (feed_at piece + 1) (record { next = running_with c r.next; text = r.text }) room m.fits in
       let T : fed_text x piece ≡ r.text = text_line x piece n ∙ ap (λ (t : Turn). t.text) l in
       let t : first_text x piece room ≡ r.text = first_all x piece room (rw T m.fits) ∙ T in

@@ -1,4 +1,5 @@
 -- The cases of a turn, as the code takes them. Assumes nothing.
+use Rattle.std.specs.Prelude.{Err, Ok}
 use Prim.Native.Nat.{ℕ}
 use mathlib.Core.Path.{◌≡◌, refl}
 use mathlib.Core.List.{List, [], ◌∷◌}
@@ -8,8 +9,7 @@ use types.Run.{OneOf}
 use Rattle.units.specs.declared.labels.RoundLabel.{RoundLabel}
 use Rattle.units.specs.declared.refusal.Refusal.{Refusal}
 use Rattle.units.specs.declared.refusal.Refusal.TheVariants.{Closed}
-use Rattle.units.specs.declared.refusal.Verdict.{Verdict}
-use Rattle.units.specs.declared.refusal.Verdict.TheVariants.{Taken, Refused}
+use Rattle.units.specs.Refusal.{Verdict}
 use Rattle.message.specs.declared.head.Head.{Head}
 use Rattle.message.specs.declared.head.Head.TheVariants.{Start}
 use Rattle.message.specs.declared.value.Message.{Message}
@@ -58,11 +58,11 @@ pub waits_unlike : (c : Core) (head : Head) → ((own : ℕ) (floor : RoundLabel
 waits_unlike c head n = waits_other c head (unlike (λ v. n v.0 v.1) (start_seen head))
 
 module _ (go : Message → Turn) (c : Core) (a : Message) {v : Verdict} where
-  pub hears_taken : v ≡ Taken → hears go c a v ≡ go a
+  pub hears_taken : v ≡ Ok tt → hears go c a v ≡ go a
   unfolding hears
   hears_taken e = rw e
 
-  pub hears_refused : (why : Refusal) → v ≡ Refused why → hears go c a v ≡ refusing c why
+  pub hears_refused : (why : Refusal) → v ≡ Err why → hears go c a v ≡ refusing c why
   unfolding hears
   hears_refused why e = rw e
 

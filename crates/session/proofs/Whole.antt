@@ -8,7 +8,7 @@ use lib.Dec.{eqb}
 use lib.ListN.{length, take, drop}
 use lib.Seq.{drop-length, length-take-le, take_all}
 use borrow.Author.Tests.{eqb-true, eqb-false, ne_eqb, lt-ltb}
-use Rattle.units.specs.declared.refusal.Verdict.{Verdict}
+use Rattle.units.specs.Refusal.{Verdict}
 use Rattle.units.specs.Limits.{line_top}
 use Rattle.units.specs.Pick.{pick}
 use Rattle.units.specs.Settings.{group_fits, numbers_fit}

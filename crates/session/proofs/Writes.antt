@@ -1,4 +1,5 @@
 -- Texts put into a lent buffer, and turns: what the code needs of the definitions. Assumes nothing.
+use Rattle.std.specs.Prelude.{None, Ok, Some}
 use Prim.Native.Nat.{ℕ}
 use mathlib.Core.Path.{◌≡◌, refl, sym, ap, ◌∙◌}
 use mathlib.Core.List.{List, [], append-nil}
@@ -8,19 +9,16 @@ use lib.Dec.{ltb}
 use lib.ListN.{length}
 use borrow.Author.Tests.{le-ltb}
 use Rattle.units.specs.declared.refusal.Refusal.{Refusal}
-use Rattle.units.specs.declared.refusal.Verdict.{Verdict}
-use Rattle.units.specs.declared.refusal.Verdict.TheVariants.{Taken}
+use Rattle.units.specs.Refusal.{Verdict}
 use Rattle.units.specs.declared.settings.Numbers.{Numbers}
 use Rattle.units.specs.Pick.{pick}
 use Rattle.message.specs.declared.head.Head.{Head}
 use Rattle.message.specs.declared.value.Message.{Message}
 use Rattle.message.specs.Head.{is_plain}
 use Rattle.message.specs.Message.{message_fits, plain}
-use Rattle.plan.specs.declared.planned.Sent.{Sent}
-use Rattle.plan.specs.declared.planned.Sent.TheVariants.{Nothing, One}
+use Rattle.plan.specs.Plan.{Sent}
 use Rattle.fields.proofs.Cases.{by_test}
-use Rattle.lines.specs.declared.write.Written.{Written}
-use Rattle.lines.specs.declared.write.Written.TheVariants.{Done}
+use Rattle.lines.specs.Writing.{Written}
 use Rattle.lines.specs.Writing.{answer_of, buffer_of, plain_fits, spell_line, write_answer, write_buffer}
 use Rattle.lines.proofs.Plain.{plain_same}
 use Rattle.controller.specs.declared.state.Controller.{Controller}
@@ -36,7 +34,7 @@ use Rattle.session.specs.Turn.{Turn, numbers_in, quiet, refusing, running_with, 
 abbrev pub Puts : List ℕ → List ℕ → List ℕ → Written → Type 0
 Puts text before after r = (r ≡ answer_of text before) × (after ≡ buffer_of text before)
 
-pub puts_none : (buf : List ℕ) → Puts [] buf buf (Done 0)
+pub puts_none : (buf : List ℕ) → Puts [] buf buf (Ok 0)
 unfolding pick
 puts_none buf = rw (le-ltb (length buf) 0 (omega arith)) (refl, refl)
 
@@ -48,7 +46,7 @@ pub wrote_same : {t u : Turn} (before : List ℕ) {after : List ℕ} {r : Turned
 wrote_same before e h = rw e h
 
 -- nothing is written
-pub wrote_quiet : {u : Turn} (c d : Core) (buf : List ℕ) {r : Turned} → u ≡ quiet d → c ≡ d → r ≡ record { next = c; written = Done 0 } → Wrote u buf buf r
+pub wrote_quiet : {u : Turn} (c d : Core) (buf : List ℕ) {r : Turned} → u ≡ quiet d → c ≡ d → r ≡ record { next = c; written = Ok 0 } → Wrote u buf buf r
 wrote_quiet c d buf e f h = let p = puts_none buf in rw (e, ← f, h) (refl, p.0, p.1)
 
 -- X is written
@@ -82,6 +80,6 @@ pub plain_puts : (s : Numbers) (c : Controller) (head : Head) → is_plain head 
 plain_puts s c head p before e h = fit_puts s c head (plain head) (sym (sent_plain s c head p)) before e (rw (plain_same s.group head p) at h)
 
 -- one line and nothing after it
-pub one_text : (s : Numbers) (c : Controller) (head : Head) {first second : Sent} {v : Verdict} → first ≡ One head → second ≡ Nothing → v ≡ Taken → put_text s c second v first ≡ fit_text s c head
+pub one_text : (s : Numbers) (c : Controller) (head : Head) {first second : Sent} {v : Verdict} → first ≡ Some head → second ≡ None → v ≡ Ok tt → put_text s c second v first ≡ fit_text s c head
 unfolding put_text rest_text verdict_text
 one_text s c head e f g = rw (e, f, g) (append-nil (fit_text s c head))

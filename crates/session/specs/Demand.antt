@@ -1,9 +1,8 @@
 -- DEMAND 1, "No line, message or timer can upset a controller, at any time, in any order": the verdict on a line, and what each refusal leaves.
-use Rattle.std.specs.Prelude.{ℕ, ◌+◌, ◌≤◌, ◌<◌, ◌≡◌, true, false, List, ◌++◌, length, take, drop}
+use Rattle.std.specs.Prelude.{ℕ, ◌+◌, ◌≤◌, ◌<◌, ◌≡◌, true, false, List, ◌++◌, length, take, drop, Err, Ok}
 use Rattle.units.specs.declared.refusal.Refusal.{Refusal}
 use Rattle.units.specs.declared.refusal.Refusal.TheVariants.{Closed, Room}
-use Rattle.units.specs.declared.refusal.Verdict.{Verdict}
-use Rattle.units.specs.declared.refusal.Verdict.TheVariants.{Taken, Refused}
+use Rattle.units.specs.Refusal.{Verdict}
 use Rattle.units.specs.Limits.{line_top}
 use Rattle.message.specs.declared.head.Head.{Head}
 use Rattle.message.specs.declared.value.Message.{Message}
@@ -32,16 +31,16 @@ use Rattle.session.specs.Turn.{numbers_in, group_in, running_with, answer_text, 
 
 -- THE VERDICT ON A LINE: the reader's 1 to 6 first; then 9 before the first B; then the step's
 abbrev pub told_verdict : Standing → Verdict
-told_verdict More = Taken
-told_verdict Whole = Taken
-told_verdict (NoSettings why) = Refused why
+told_verdict More = Ok tt
+told_verdict Whole = Ok tt
+told_verdict (NoSettings why) = Err why
 
 unfoldable pub wait_verdict : Head → Verdict
-wait_verdict head = on_start (λ own floor. Taken) (Refused Closed) head
+wait_verdict head = on_start (λ own floor. (Ok tt)) (Err Closed) head
 
 unfoldable pub heard_verdict : (Message → Verdict) → Message → Verdict → Verdict
-heard_verdict go a Taken = go a
-heard_verdict go a (Refused why) = Refused why
+heard_verdict go a (Ok tt) = go a
+heard_verdict go a (Err why) = Err why
 
 -- the message that a line says, and the step that it leads to
 abbrev pub spoken_in : Core → List ℕ → Message
@@ -54,7 +53,7 @@ unfoldable pub verdict_at : Core → List ℕ → Stage → Verdict
 verdict_at c line AtSettings = told_verdict (settle_line c.settling line).answer
 verdict_at c line Waiting = heard_verdict (λ a. wait_verdict a.head) (spoken_in c line) (read_line (group_in c) line).verdict
 verdict_at c line Running = heard_verdict (λ a. (stepped (numbers_in c) c.controller a).verdict) (spoken_in c line) (read_line (group_in c) line).verdict
-verdict_at c line Ended = Taken
+verdict_at c line Ended = Ok tt
 
 abbrev pub verdict_of : Core → List ℕ → Verdict
 verdict_of c line = verdict_at c line c.stage
@@ -92,7 +91,7 @@ pub record RoundOver (x : Session) (line piece buf : List ℕ) (why : Refusal) :
 
 -- 16: nothing is taken, written or changed, and the lent buffer is as it was
 pub record Untouched (x : Session) (piece buf : List ℕ) : Type 0 where
-  pub call : fed x piece (length buf) ≡ record { next = x; took = 0; wrote = 0; verdict = Refused Room }
+  pub call : fed x piece (length buf) ≡ record { next = x; took = 0; wrote = 0; verdict = Err Room }
   pub buffer : buffer_of (fed_text x piece) buf ≡ buf
 
 -- a session that is past its settings, the line at hand, the piece that ends it, and a lent buffer
@@ -101,7 +100,7 @@ pub record Demand1 (x : Session) (line piece buf : List ℕ) : Type 0 where
   pub fits : CoreFits x.core
   -- the line at hand is answered as document 01 has it
   pub answer : fed_text x piece ≡ (turn x.core line).text
-  pub refused : (why : Refusal) → verdict_of x.core line ≡ Refused why → ends_round why ≡ false → length (refusal_line why) ≤ length buf → Unmoved x piece buf why
-  pub round_over : (why : Refusal) → verdict_of x.core line ≡ Refused why → ends_round why ≡ true → length (answer_text (numbers_in x.core) (step_by x.core line)) ≤ length buf
+  pub refused : (why : Refusal) → verdict_of x.core line ≡ Err why → ends_round why ≡ false → length (refusal_line why) ≤ length buf → Unmoved x piece buf why
+  pub round_over : (why : Refusal) → verdict_of x.core line ≡ Err why → ends_round why ≡ true → length (answer_text (numbers_in x.core) (step_by x.core line)) ≤ length buf
       → RoundOver x line piece buf why
   pub no_room : length buf < length (turn x.core line).text → Untouched x piece buf

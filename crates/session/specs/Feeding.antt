@@ -1,9 +1,8 @@
 -- A SESSION FED WITH BYTES: what one call takes, writes and leaves. That this is the station program, however the input is cut, is proofs/Whole.antt.
-use Rattle.std.specs.Prelude.{ℕ, ◌+◌, ◌≡◌, List, [], ◌++◌, Bool, true, false, eqb, ltb, length}
+use Rattle.std.specs.Prelude.{ℕ, ◌+◌, ◌≡◌, List, [], ◌++◌, Bool, true, false, eqb, ltb, length, Err, None, Ok, Some}
 use Rattle.units.specs.declared.refusal.Refusal.{Refusal}
 use Rattle.units.specs.declared.refusal.Refusal.TheVariants.{Long, Unended, Range, Settings as NoSettings, Room}
-use Rattle.units.specs.declared.refusal.Verdict.{Verdict}
-use Rattle.units.specs.declared.refusal.Verdict.TheVariants.{Taken, Refused}
+use Rattle.units.specs.Refusal.{Verdict}
 use Rattle.units.specs.declared.settings.Numbers.{Numbers}
 use Rattle.units.specs.Limits.{line_top}
 use Rattle.units.specs.Pick.{pick}
@@ -11,15 +10,13 @@ use Rattle.units.specs.Refusal.{number_of}
 use Rattle.message.specs.declared.head.Head.{Head}
 use Rattle.message.specs.declared.value.Message.{Message}
 use Rattle.message.specs.Message.{message_fits}
-use Rattle.plan.specs.declared.planned.Sent.{Sent}
-use Rattle.plan.specs.declared.planned.Sent.TheVariants.{Nothing, One}
+use Rattle.plan.specs.Plan.{Sent}
 use Rattle.fields.specs.Cut.{carry_start, emptied, held_with, line_ending}
 use Rattle.fields.specs.Lines.{feed_at}
 use Rattle.lines.specs.declared.read.Line.{Line}
 use Rattle.lines.specs.declared.settle.Settling.{Settling}
 use Rattle.lines.specs.Reading.{read_line}
-use Rattle.lines.specs.declared.write.Written.{Written}
-use Rattle.lines.specs.declared.write.Written.TheVariants.{Done, Refused as NotWritten}
+use Rattle.lines.specs.Writing.{Written}
 use Rattle.lines.specs.Writing.{spell_line, answer_of, buffer_of, written_number}
 use Rattle.controller.specs.declared.state.Controller.{Controller}
 use Rattle.controller.specs.declared.step.Answer.{Answer}
@@ -42,15 +39,15 @@ fit_text s c head = pick (message_fits s.group (sent_message s c head)) (spell_l
 
 -- the writer's 6 counts as nothing written
 unfoldable pub or_nothing : Written → Written
-or_nothing w = pick (eqb (written_number w) (number_of Range)) (Done 0) w
+or_nothing w = pick (eqb (written_number w) (number_of Range)) (Ok 0) w
 
 unfoldable pub rest_text : Numbers → Controller → Verdict → Sent → List ℕ
-rest_text s c v Nothing = verdict_text v
-rest_text s c v (One head) = fit_text s c head
+rest_text s c v None = verdict_text v
+rest_text s c v (Some head) = fit_text s c head
 
 unfoldable pub put_text : Numbers → Controller → Sent → Verdict → Sent → List ℕ
-put_text s c second v Nothing = verdict_text v
-put_text s c second v (One head) = fit_text s c head ++ rest_text s c v second
+put_text s c second v None = verdict_text v
+put_text s c second v (Some head) = fit_text s c head ++ rest_text s c v second
 
 abbrev pub answer_put : Numbers → Answer → List ℕ
 answer_put s a = put_text s a.next a.second a.verdict a.first
@@ -62,8 +59,8 @@ abbrev pub advancing : Core → Message → Turn
 advancing c a = advances c (advanced (numbers_in c) c.controller a)
 
 abbrev pub done_length : Written → ℕ
-done_length (Done len) = len
-done_length (NotWritten why) = 0
+done_length (Ok len) = len
+done_length (Err why) = 0
 
 -- THE LINE AT HAND in a session
 abbrev pub line_turn : Session → List ℕ → Turn
@@ -83,17 +80,17 @@ Wrote t before after r = (r.next ≡ t.next) × (r.written ≡ answer_of t.text 
 -- 16: with too little room nothing is taken, written or changed
 abbrev pub line_done : Session → ℕ → Turn → ℕ → Fed
 line_done x end t room =
-    pick (ltb room (length t.text)) (record { next = x; took = 0; wrote = 0; verdict = Refused Room })
-    (record { next = record { core = t.next; carry = emptied x.carry }; took = end; wrote = length t.text; verdict = Taken })
+    pick (ltb room (length t.text)) (record { next = x; took = 0; wrote = 0; verdict = Err Room })
+    (record { next = record { core = t.next; carry = emptied x.carry }; took = end; wrote = length t.text; verdict = Ok tt })
 
 -- the same, by what was written
 unfoldable pub line_done_by : Session → ℕ → Core → Written → Fed
-line_done_by x end next (Done len) = record { next = record { core = next; carry = emptied x.carry }; took = end; wrote = len; verdict = Taken }
-line_done_by x end next (NotWritten why) = record { next = x; took = 0; wrote = 0; verdict = Refused why }
+line_done_by x end next (Ok len) = record { next = record { core = next; carry = emptied x.carry }; took = end; wrote = len; verdict = Ok tt }
+line_done_by x end next (Err why) = record { next = x; took = 0; wrote = 0; verdict = Err why }
 
 -- an input without a line feed is held
 abbrev pub piece_held : Session → List ℕ → Fed
-piece_held x input = record { next = record { core = x.core; carry = held_with x.carry input }; took = length input; wrote = 0; verdict = Taken }
+piece_held x input = record { next = record { core = x.core; carry = held_with x.carry input }; took = length input; wrote = 0; verdict = Ok tt }
 
 unfoldable pub fed : Session → List ℕ → ℕ → Fed
 fed x input room = pick (eqb (feed_at input) (length input)) (piece_held x input) (line_done x (feed_at input + 1) (line_turn x input) room)
@@ -107,13 +104,13 @@ abbrev pub unended : ℕ → Refusal
 unended n = pick (ltb line_top n) Long Unended
 
 unfoldable pub unended_line : ℕ → Verdict
-unended_line n = pick (eqb n 0) Taken (Refused (unended n))
+unended_line n = pick (eqb n 0) (Ok tt) (Err (unended n))
 
 unfoldable pub last_of : Settling → ℕ → Stage → Verdict
-last_of st n AtSettings = Refused (NoSettings st.line (number_of (unended n)))
+last_of st n AtSettings = Err (NoSettings st.line (number_of (unended n)))
 last_of st n Waiting = unended_line n
 last_of st n Running = unended_line n
-last_of st n Ended = Taken
+last_of st n Ended = Ok tt
 
 abbrev pub is_ended : Stage → Bool
 is_ended AtSettings = false

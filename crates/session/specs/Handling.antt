@@ -1,9 +1,8 @@
 -- A BLOCK OF INPUT: as much of it as there is room to answer, by calls of `serve` one after another, each lent the rest of the buffer.
 -- That this is a run of calls of `feed` on exactly the bytes that it takes is proofs/Handling.antt.
-use Rattle.std.specs.Prelude.{ℕ, ◌*◌, List, [], ◌∷◌, ◌++◌, Bool, ◌&&◌, leb, ltb, length}
+use Rattle.std.specs.Prelude.{ℕ, ◌*◌, List, [], ◌∷◌, ◌++◌, Bool, ◌&&◌, leb, ltb, length, Err, Ok}
 use Rattle.units.specs.declared.refusal.Refusal.TheVariants.{Room}
-use Rattle.units.specs.declared.refusal.Verdict.{Verdict}
-use Rattle.units.specs.declared.refusal.Verdict.TheVariants.{Taken, Refused}
+use Rattle.units.specs.Refusal.{Verdict}
 use Rattle.units.specs.Limits.{line_top}
 use Rattle.units.specs.Pick.{pick}
 use Rattle.session.specs.declared.feed.Fed.{Fed}
@@ -24,7 +23,7 @@ handle_run x input room = run_on calls_on serve_run (length input) x input room
 
 -- 16: with less than two lines' room nothing is taken, written or changed
 unfoldable pub room_verdict : ℕ → Verdict
-room_verdict room = pick (ltb room (2 * line_top)) (Refused Room) Taken
+room_verdict room = pick (ltb room (2 * line_top)) (Err Room) (Ok tt)
 
 abbrev pub handled_by : Run Session → ℕ → Fed
 handled_by r room = record { next = r.next; took = r.took; wrote = length r.text; verdict = room_verdict room }

@@ -1,7 +1,6 @@
 -- LINES ONE AFTER ANOTHER: a call that serves all whole lines of a piece. That it is so many calls of `feed`, each lent the rest of the buffer, is proofs/Serving.antt.
-use Rattle.std.specs.Prelude.{ℕ, ◌+◌, ◌-◌, ◌*◌, ◌≡◌, List, [], ◌++◌, Bool, true, false, not, ◌&&◌, eqb, leb, ltb, length, drop}
-use Rattle.units.specs.declared.refusal.Verdict.{Verdict}
-use Rattle.units.specs.declared.refusal.Verdict.TheVariants.{Taken, Refused}
+use Rattle.std.specs.Prelude.{ℕ, ◌+◌, ◌-◌, ◌*◌, ◌≡◌, List, [], ◌++◌, Bool, true, false, not, ◌&&◌, eqb, leb, ltb, length, drop, Err, Ok}
+use Rattle.units.specs.Refusal.{Verdict}
 use Rattle.units.specs.declared.settings.Numbers.{Numbers}
 use Rattle.units.specs.Limits.{line_top}
 use Rattle.units.specs.Pick.{pick}
@@ -29,8 +28,8 @@ use Rattle.session.specs.Repeat.{Run, run_on}
 
 -- WHAT A LINE THAT WAS READ LEADS TO, where a controller runs: a refused one leads to its X and to nothing else
 unfoldable pub plan_line : Numbers → Controller → Message → Head → Verdict → Plan
-plan_line s k a head Taken = planned s k a head
-plan_line s k a head (Refused why) = refuse why
+plan_line s k a head (Ok tt) = planned s k a head
+plan_line s k a head (Err why) = refuse why
 
 -- the change that it makes, known where it is that one reading is added and nothing else
 abbrev pub AddedBy : Controller → Head → Verdict → Change → Type 0

@@ -1,16 +1,14 @@
 -- WHAT ONE WHOLE LINE LEADS TO: the settings first, then a controller; what the program is at next, and the bytes that it writes.
-use Rattle.std.specs.Prelude.{ℕ, List, [], ◌++◌}
+use Rattle.std.specs.Prelude.{ℕ, List, [], ◌++◌, Err, None, Ok, Some}
 use Rattle.units.specs.declared.refusal.Refusal.{Refusal}
 use Rattle.units.specs.declared.refusal.Refusal.TheVariants.{Closed}
-use Rattle.units.specs.declared.refusal.Verdict.{Verdict}
-use Rattle.units.specs.declared.refusal.Verdict.TheVariants.{Taken, Refused}
+use Rattle.units.specs.Refusal.{Verdict}
 use Rattle.units.specs.declared.settings.Group.{Group}
 use Rattle.units.specs.declared.settings.Numbers.{Numbers}
 use Rattle.message.specs.declared.head.Head.{Head}
 use Rattle.message.specs.declared.value.Message.{Message}
 use Rattle.message.specs.View.{on_start}
-use Rattle.plan.specs.declared.planned.Sent.{Sent}
-use Rattle.plan.specs.declared.planned.Sent.TheVariants.{Nothing, One}
+use Rattle.plan.specs.Plan.{Sent}
 use Rattle.lines.specs.declared.settle.Standing.{Standing}
 use Rattle.lines.specs.declared.settle.Standing.TheVariants.{More, Whole, Refused as NoSettings}
 use Rattle.lines.specs.declared.settle.Settling.{Settling}
@@ -65,17 +63,17 @@ waits_for c head = on_start (λ own floor. quiet (running_with c (start_of (numb
 -- AFTER IT each line is a message, and B a restart
 -- what is done with a message, where the line was taken
 unfoldable pub hears : (Message → Turn) → Core → Message → Verdict → Turn
-hears go c a Taken = go a
-hears go c a (Refused why) = refusing c why
+hears go c a (Ok tt) = go a
+hears go c a (Err why) = refusing c why
 
 -- the line of a message that was sent, after the step
 unfoldable pub sent_text : Numbers → Controller → Sent → List ℕ
-sent_text s c Nothing = []
-sent_text s c (One head) = spell_line s.group (sent_message s c head)
+sent_text s c None = []
+sent_text s c (Some head) = spell_line s.group (sent_message s c head)
 
 unfoldable pub verdict_text : Verdict → List ℕ
-verdict_text Taken = []
-verdict_text (Refused why) = refusal_line why
+verdict_text (Ok tt) = []
+verdict_text (Err why) = refusal_line why
 
 -- "it writes each line sent, and `X` for each refusal"
 unfoldable pub answer_text : Numbers → Answer → List ℕ

@@ -7,7 +7,7 @@ ghost use Rattle.session.specs.Turn.{verdict_text};
 
 use controller::Controller;
 use fields::put_part;
-use lines::write::{Written, write, write_plain, write_refusal};
+use lines::write::{Written, write, write_plain, write_refusal, written_number};
 use message::Head;
 use plan::Sent;
 use units::{Numbers, Refusal, Verdict};
@@ -16,8 +16,8 @@ use units::{Numbers, Refusal, Verdict};
 fn or_nothing(written: Written) -> Written
     ensures { result ≡ or_nothing written }
 {
-    if written.number() == Refusal::Range.number() {
-        return Written::Done { len: 0 };
+    if written_number(written) == Refusal::Range.number() {
+        return Ok(0);
     }
     written
 }
@@ -38,8 +38,8 @@ pub(crate) fn put_verdict(verdict: Verdict, out: &mut [u8]) -> Written
     ensures { (result ≡ answer_of (verdict_text verdict) out.old) × (out.new ≡ buffer_of (verdict_text verdict) out.old) }
 {
     match verdict {
-        Verdict::Taken => Written::Done { len: 0 },
-        Verdict::Refused(why) => write_refusal(why, out),
+        Ok(()) => Ok(0),
+        Err(why) => write_refusal(why, out),
     }
 }
 
@@ -54,8 +54,8 @@ fn put_rest(
     ensures { (result ≡ answer_of (rest_text numbers c verdict second) out.old) × (out.new ≡ buffer_of (rest_text numbers c verdict second) out.old) }
 {
     match second {
-        Sent::Nothing => put_verdict(verdict, out),
-        Sent::One(head) => put_sent(c, numbers, head, out),
+        None => put_verdict(verdict, out),
+        Some(head) => put_sent(c, numbers, head, out),
     }
 }
 
@@ -64,8 +64,8 @@ pub(crate) fn length_of(written: Written) -> usize
     ensures { result ≡ done_length written }
 {
     match written {
-        Written::Done { len } => len,
-        Written::Refused(_) => 0,
+        Ok(len) => len,
+        Err(_) => 0,
     }
 }
 
@@ -94,13 +94,13 @@ fn put_both(
     let mut line = [0u8; 600];
     let len = length_of(put_sent(c, numbers, head, &mut line));
     if out.len() < len {
-        return Written::Refused(Refusal::Room);
+        return Err(Refusal::Room);
     }
     match put_rest(c, numbers, second, verdict, &mut out[len..]) {
-        Written::Refused(why) => Written::Refused(why),
-        Written::Done { len: more } => {
+        Err(why) => Err(why),
+        Ok(more) => {
             put_first(out, &line, len);
-            Written::Done { len: len + more }
+            Ok(len + more)
         }
     }
 }
@@ -117,13 +117,13 @@ pub(crate) fn put_answer(
     ensures { (result ≡ answer_of (put_text numbers c second verdict first) out.old) × (out.new ≡ buffer_of (put_text numbers c second verdict first) out.old) }
 {
     match first {
-        Sent::Nothing => put_verdict(verdict, out),
-        Sent::One(head) => match second {
-            Sent::Nothing => match verdict {
-                Verdict::Taken => put_sent(c, numbers, head, out),
-                Verdict::Refused(_) => put_both(c, numbers, head, second, verdict, out),
+        None => put_verdict(verdict, out),
+        Some(head) => match second {
+            None => match verdict {
+                Ok(()) => put_sent(c, numbers, head, out),
+                Err(_) => put_both(c, numbers, head, second, verdict, out),
             },
-            Sent::One(_) => put_both(c, numbers, head, second, verdict, out),
+            Some(_) => put_both(c, numbers, head, second, verdict, out),
         },
     }
 }

@@ -10,7 +10,7 @@ use lines::Line;
 use lines::read::{First, read, read_first};
 use lines::settle::{Settled, Settling};
 use message::{Head, Message};
-use units::{Group, Verdict};
+use units::Group;
 
 // What a line of the first n bytes says.
 fn read_part(bytes: &[u8], n: usize, group: Group) -> Line
@@ -65,7 +65,7 @@ pub(crate) fn unread(input: &[u8]) -> First
     let seen = scan(input);
     First {
         line: Line {
-            verdict: Verdict::Taken,
+            verdict: Ok(()),
             message: Message::plain(Head::Refused { number: 0 }),
         },
         feed: seen.feed,

@@ -8,7 +8,6 @@ use crate::stage::{Core, Stage};
 use crate::turn::Turned;
 use fields::Carry;
 use lines::settle::Settling;
-use lines::write::Written;
 use units::limits::LINE;
 use units::{Refusal, Verdict};
 
@@ -41,9 +40,9 @@ fn unended_line(n: usize) -> Verdict
     ensures { result ≡ unended_line n }
 {
     if n == 0 {
-        return Verdict::Taken;
+        return Ok(());
     }
-    Verdict::Refused(unended(n))
+    Err(unended(n))
 }
 
 // What the end of the input says, with n bytes held.
@@ -51,13 +50,13 @@ fn last_of(settling: Settling, n: usize, stage: Stage) -> Verdict
     ensures { result ≡ last_of settling n stage }
 {
     match stage {
-        Stage::Settling => Verdict::Refused(Refusal::Settings {
+        Stage::Settling => Err(Refusal::Settings {
             line: settling.line(),
             reason: unended(n).number(),
         }),
         Stage::Waiting => unended_line(n),
         Stage::Running => unended_line(n),
-        Stage::Ended => Verdict::Taken,
+        Stage::Ended => Ok(()),
     }
 }
 
@@ -93,20 +92,20 @@ impl Session {
         let written = turned.written;
         let old = self.carry;
         match written {
-            Written::Done { len } => {
+            Ok(len) => {
                 let carry = old.emptied();
                 Fed {
                     next: Session { core, carry },
                     took: end,
                     wrote: len,
-                    verdict: Verdict::Taken,
+                    verdict: Ok(()),
                 }
             }
-            Written::Refused(why) => Fed {
+            Err(why) => Fed {
                 next: self,
                 took: 0,
                 wrote: 0,
-                verdict: Verdict::Refused(why),
+                verdict: Err(why),
             },
         }
     }
@@ -122,7 +121,7 @@ impl Session {
             next: Session { core, carry },
             took: input.len(),
             wrote: 0,
-            verdict: Verdict::Taken,
+            verdict: Ok(()),
         }
     }
 

@@ -4,20 +4,17 @@ ghost use Rattle.lines.specs.Writing.{buffer_of};
 ghost use Rattle.session.specs.Handling.{handled, handled_text, room_verdict};
 
 use crate::feed::{Fed, Session};
-use units::limits::LINE;
+use crate::run::ROOM;
 use units::{Refusal, Verdict};
-
-// Two lines' room, enough for whatever a line leads to.
-const ROOM: usize = 2 * LINE;
 
 // 16 where there is too little room.
 fn room_verdict(room: usize) -> Verdict
     ensures { result ≡ room_verdict room }
 {
     if room < ROOM {
-        return Verdict::Refused(Refusal::Room);
+        return Err(Refusal::Room);
     }
-    Verdict::Taken
+    Ok(())
 }
 
 impl Session {
@@ -28,10 +25,10 @@ impl Session {
         let mut next = self;
         let mut at: usize = 0;
         let mut filled: usize = 0;
+        // A while: `serve` takes a piece of any length.
         while (at < input.len()) & (ROOM <= out.len() - filled) {
             let fed = next.serve(&input[at..], &mut out[filled..]);
-            let after = fed.next;
-            next = after;
+            next = fed.next;
             at += fed.took;
             filled += fed.wrote;
         }

@@ -14,7 +14,7 @@ use units::limits::LINE;
 use units::{Numbers, Verdict};
 
 // Two lines' room, enough for whatever a line leads to.
-const ROOM: usize = 2 * LINE;
+pub(crate) const ROOM: usize = 2 * LINE;
 
 // The controller after the lines that were taken, how many bytes they have, and how many were written.
 #[derive(Clone, Copy)]
@@ -28,7 +28,7 @@ pub struct Ran {
 fn added_by(c: Controller, head: Head, verdict: Verdict) -> Change
     ensures { AddedBy c head verdict result }
 {
-    let Verdict::Taken = verdict else {
+    let Ok(()) = verdict else {
         return Change::More;
     };
     let Head::Reading { label, run, raw } = head else {
@@ -42,8 +42,8 @@ fn plan_line(c: Controller, numbers: Numbers, message: Message, verdict: Verdict
     ensures { result ≡ plan_line numbers c message message.head verdict }
 {
     match verdict {
-        Verdict::Taken => c.plan(numbers, message),
-        Verdict::Refused(why) => refusal(why),
+        Ok(()) => c.plan(numbers, message),
+        Err(why) => refusal(why),
     }
 }
 
@@ -66,6 +66,7 @@ pub(crate) fn run_lines(c: Controller, numbers: Numbers, input: &[u8], out: &mut
     let mut next = c;
     let mut at: usize = 0;
     let mut filled: usize = 0;
+    // A while: lines have any length, and the last may not be whole.
     while ROOM <= out.len() - filled {
         let first = read_first(&input[at..], group);
         let feed = first.feed;

@@ -4,7 +4,7 @@ ghost use Rattle.fields.specs.Lines.{feed_at};
 ghost use Rattle.fields.specs.Cut.{line_ending, line_in};
 ghost use Rattle.session.specs.Feeding.{Heard, Wrote, advancing};
 ghost use Rattle.session.specs.Turn.{hears, numbers_in, refusing, running_with, settles_to, turn_by, waits_for};
-ghost use Rattle.lines.specs.declared.write.Written.{Written};
+ghost use Rattle.lines.specs.Writing.{Written};
 ghost use Rattle.controller.specs.Start.{start_of};
 
 use crate::answer::put_answer;
@@ -17,7 +17,7 @@ use lines::read::First;
 use lines::settle::{Settled, Standing};
 use lines::write::{Written, write_refusal};
 use message::{Head, Message};
-use units::{Refusal, RoundLabel, Verdict};
+use units::{Refusal, RoundLabel};
 
 #[derive(Clone, Copy)]
 pub struct Turned {
@@ -28,11 +28,11 @@ pub struct Turned {
 impl Core {
     // Nothing is written.
     fn quiet(self) -> Turned
-        ensures { result ≡ record { next = self; written = Written.Done 0 } }
+        ensures { result ≡ record { next = self; written = Ok 0 } }
     {
         Turned {
             next: self,
-            written: Written::Done { len: 0 },
+            written: Ok(0),
         }
     }
 
@@ -60,7 +60,7 @@ impl Core {
     }
 
     fn begin(self, own: usize, floor: RoundLabel) -> Turned
-        ensures { result ≡ record { next = running_with self (start_of (numbers_in self) own floor); written = Written.Done 0 } }
+        ensures { result ≡ record { next = running_with self (start_of (numbers_in self) own floor); written = Ok 0 } }
     {
         let numbers = self.numbers();
         self.running(Controller::begin(numbers, own, floor)).quiet()
@@ -84,8 +84,8 @@ impl Core {
         let message = line.message;
         let head = message.head;
         match verdict {
-            Verdict::Refused(why) => self.refuse(why, out),
-            Verdict::Taken => self.wait_for(head, out),
+            Err(why) => self.refuse(why, out),
+            Ok(()) => self.wait_for(head, out),
         }
     }
 
@@ -113,8 +113,8 @@ impl Core {
         let verdict = line.verdict;
         let message = line.message;
         match verdict {
-            Verdict::Refused(why) => self.refuse(why, out),
-            Verdict::Taken => self.advance(message, out),
+            Err(why) => self.refuse(why, out),
+            Ok(()) => self.advance(message, out),
         }
     }
 

@@ -1,36 +1,25 @@
 // Reading standard input.
-ghost use Rattle.std.specs.Prelude.{◌≤◌, length};
-ghost use Rattle.station.specs.Calls.{moved_by};
+ghost use Rattle.std.specs.Prelude.{◌≤◌, IfOk, length};
 
-use crate::call::{Outcome, budget, is_moved, moved, reads_left, said};
+use crate::call::{Outcome, Stop, reads_again, said};
 use std::io::Read;
 
-// How many bytes came, none at the end of the input; or reading failed.
-#[derive(Clone, Copy)]
-pub struct Heard {
-    pub have: usize,
-    pub ok: bool,
-}
-
 fn read_some(input: &mut impl Read, block: &mut [u8]) -> Outcome
-    ensures { moved_by result ≤ length block.old }
+    ensures { IfOk result (λ n. n ≤ length block.old) }
 {
     let got = input.read(block);
     said(got, block)
 }
 
-// Reads a block. An interrupted read is made again.
-pub(crate) fn hear(input: &mut impl Read, block: &mut [u8]) -> Heard
-    ensures { result.have ≤ length block.old }
+// Reads a block: how many bytes came, none at the end of the input; or that reading failed. An interrupted read is made again.
+pub(crate) fn hear(input: &mut impl Read, block: &mut [u8]) -> Outcome
+    ensures { IfOk result (λ n. n ≤ length block.old) }
 {
-    let mut have: usize = 0;
-    let mut ok = false;
-    let mut left = budget();
-    while 0 < left {
+    for _ in 0..u64::MAX {
         let got = read_some(input, block);
-        have = moved(got);
-        ok = is_moved(got);
-        left = reads_left(got, left);
+        if !reads_again(got) {
+            return got;
+        }
     }
-    Heard { have, ok }
+    Err(Stop::Again)
 }

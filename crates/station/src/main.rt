@@ -5,18 +5,19 @@ mod call;
 mod hear;
 mod say;
 
-ghost use Rattle.std.specs.Prelude.{◌≡◌, ◌&&◌, not, ◌+◌, ◌-◌, ◌*◌, ◌≤◌, ltb, length, take};
+ghost use Rattle.std.specs.Prelude.{◌≡◌, ◌&&◌, not, ◌*◌, ◌≤◌, ltb, length, take};
+ghost use Rattle.std.specs.Result.{result_unwrap_or};
 ghost use Rattle.units.specs.Limits.{line_top};
-ghost use Rattle.units.specs.Pick.{pick};
 ghost use Rattle.station.specs.Serving.{Hand, Handover};
 
-use call::budget;
-use hear::{Heard, hear};
+use call::Outcome;
+use hear::hear;
 use say::say;
 use session::Session;
 use std::io::Write;
 
 // A session that was handed something: how much it took, how much it answered, and whether that was written.
+// No Result: `Hand` and `Handover` say what it took and where it stands after a write that failed too.
 #[derive(Clone, Copy)]
 struct Handed {
     next: Session,
@@ -31,15 +32,11 @@ fn hand(to: &mut impl Write, session: Session, piece: &[u8], out: &mut [u8]) -> 
     ensures { Hand session piece.now result.took (take result.wrote out.new) result.next }
 {
     let fed = session.handle(piece, out);
-    let next = fed.next;
-    let took = fed.took;
-    let wrote = fed.wrote;
-    let written = say(to, out, wrote);
     Handed {
-        next,
-        took,
-        wrote,
-        written,
+        next: fed.next,
+        took: fed.took,
+        wrote: fed.wrote,
+        written: say(to, out, fed.wrote),
     }
 }
 
@@ -50,7 +47,7 @@ fn goes_on(at: usize, have: usize, written: bool) -> bool
     (at < have) & written
 }
 
-// A session after a block, and whether all its answers were written.
+// A session after a block, and whether all its answers were written. No Result: `Handover` has the session after a write that failed too.
 #[derive(Clone, Copy)]
 struct Served {
     next: Session,
@@ -65,26 +62,21 @@ fn serve(to: &mut impl Write, session: Session, block: &[u8], have: usize, out: 
     let mut next = session;
     let mut at: usize = 0;
     let mut written = true;
+    // A while: the session takes a piece of any length.
     while goes_on(at, have, written) {
         let handed = hand(to, next, &block[at..have], out);
-        let after = handed.next;
-        next = after;
+        next = handed.next;
         at += handed.took;
         written = handed.written;
     }
     Served { next, written }
 }
 
-// How many more blocks may be read: none after the end of the input or of the session, or after a failure.
-#[tactic(auto, unfolding(units::specs::Pick::pick))]
-fn blocks_left(left: u64, heard: Heard, written: bool, ended: bool) -> u64
-    requires { 1 ≤ left }
-    ensures { (result + 1 ≤ left) × (result ≡ pick (((ltb 0 heard.have && heard.ok) && written) && not ended) (left - 1) 0) }
+// Whether one more block is read: none after the end of the input or of the session, or after a failure.
+fn reads_on(heard: Outcome, written: bool, ended: bool) -> bool
+    ensures { result ≡ ((ltb 0 (result_unwrap_or heard 0) && written) && not ended) }
 {
-    if (0 < heard.have) & heard.ok & written & !ended {
-        return left - 1;
-    }
-    0
+    (0 < heard.unwrap_or(0)) & written & !ended
 }
 
 fn output_failed(errors: &mut impl Write) {
@@ -133,15 +125,16 @@ fn main(rt: HostRuntime) {
     let out: &mut [u8] = &mut room;
     let mut read = true;
     let mut written = true;
-    let mut left = budget();
-    while 0 < left {
+    // more blocks than any station lives to read
+    for _ in 0..u64::MAX {
         let heard = hear(&mut from, block);
-        let served = serve(&mut to, session, block, heard.have, out);
-        let after = served.next;
-        session = after;
-        read = heard.ok;
+        let served = serve(&mut to, session, block, heard.unwrap_or(0), out);
+        session = served.next;
+        read = heard.is_ok();
         written = served.written;
-        left = blocks_left(left, heard, written, session.ended());
+        if !reads_on(heard, written, session.ended()) {
+            break;
+        }
     }
     part(&mut to, &mut rt.stderr(), session, read, written, out);
 }

@@ -1,12 +1,12 @@
 // Writing to a descriptor: all of a text, or that it failed.
 ghost use Rattle.std.specs.Prelude.{◌≤◌, length};
-ghost use Rattle.station.specs.Calls.{moved_by};
+ghost use Rattle.std.specs.Io.{WritesAtMost};
 
-use crate::call::{Outcome, budget, moved, said, writes_left};
+use crate::call::{Outcome, said, writes_left};
 use std::io::Write;
 
 fn write_some(to: &mut impl Write, part: &[u8]) -> Outcome
-    ensures { moved_by result ≤ length part.now }
+    ensures { WritesAtMost result part.now }
 {
     said(to.write(part), part)
 }
@@ -17,10 +17,11 @@ pub(crate) fn say(to: &mut impl Write, text: &[u8], n: usize) -> bool
     requires { n ≤ length text.now }
 {
     let mut at: usize = 0;
-    let mut left = budget();
+    let mut left = u64::MAX;
+    // A while: a write takes a piece of any length.
     while (at < n) & (0 < left) {
         let put = write_some(to, &text[at..n]);
-        at += moved(put);
+        at += put.unwrap_or(0);
         left = writes_left(put, left);
     }
     at == n

@@ -1,15 +1,23 @@
 -- The laws of `some` and `first_of`: some place where a test holds, and the least. Assumes nothing.
-use Prim.Native.Nat.{ℕ, zero, suc, ◌+◌, ◌≤◌, ◌<◌}
+use Prim.Native.Nat.{ℕ, zero, suc, ◌≤◌, ◌<◌}
 use mathlib.Core.Path.{◌≡◌, refl, sym, ap, ◌∙◌}
 use mathlib.Core.Bool.{Bool, true, false, ◌||◌}
+use mathlib.Core.Bool.{cond}
+use mathlib.Core.List.{List}
 use native.Mathlib.Omega.{arith}
-use native.Mathlib.Numerals.{add-one}
 use lib.Dec.{ltb}
-use borrow.Author.Tests.{le-ltb, ltb-true, ltb-false}
+use lib.ListN.{length, get_or, take}
+use lib.Seq.{take-suc, get_or-take, length-take-le}
+use borrow.Author.Tests.{le-ltb, lt-ltb, ltb-true, ltb-false}
+use Rattle.std.proofs.Common.{Option, Some, None}
+use Rattle.std.specs.List.{list_any, position_or_len}
+use Rattle.std.specs.Option.{MatchOption}
+use Rattle.std.proofs.lemmas.List.Recursion.{or_push}
+use Rattle.std.proofs.lemmas.List.Sums.{position_or_len_is}
 use Rattle.units.specs.Pick.{pick}
 use Rattle.units.proofs.Every.{no_way}
 use Rattle.fields.proofs.Cases.{by_test, by_lt}
-use Rattle.store.specs.First.{some, first_of}
+use Rattle.store.specs.First.{some, first_of, place_below}
 
 or_true : (a : Bool) → (a || true) ≡ true
 or_true true = refl
@@ -76,34 +84,39 @@ module _ (f : ℕ → Bool) where
       let k = first_le n in
       by_lt (first_of f n) n (λ l. never_both (f (first_of f n)) (first_holds n l) (b (first_of f n) l)) (λ l. omega arith)
 
-  -- A LOOP that looks for it has passed no place
-  pub first_start : 0 ≡ first_of f 0
-  unfolding first_of
-  first_start = refl
-
-  -- one more place passed
-  pub first_more : (i : ℕ) → i ≡ first_of f i → f i ≡ false → i + 1 ≡ first_of f (i + 1)
-  unfolding first_of pick
-  first_more i p q = rw (add-one i, ← p, le-ltb i i (omega arith), q)
-
-  -- found
-  pub first_found : (n i : ℕ) → i ≡ first_of f i → f i ≡ true → i < n → i ≡ first_of f n
-  first_found n i p q h = sym (first_only n i h q (λ j l. first_least i j (omega arith)))
-
-  -- none to the end
-  pub first_end : (n i : ℕ) → i ≡ first_of f i → i ≤ n → n ≤ i → i ≡ first_of f n
-  first_end n i p h k = let q : i ≡ n = omega arith in p ∙ ap (first_of f) q
+  -- THE LEAST PLACE as a search over the places answers it
+  pub place_found : (n : ℕ) (r : Option ℕ) → MatchOption r ((k : ℕ) → 0 ≤ k → k < n → f k ≡ false) (λ i. (0 ≤ i) × (i < n) × (f i ≡ true) × ((k : ℕ) → 0 ≤ k → k < i → f k ≡ false)) → r ≡ place_below (first_of f n) n
+  unfolding pick
+  place_found n None h = rw (first_all n (λ j l. h j (omega arith) l), le-ltb n n (omega arith))
+  place_found n (Some i) h = rw (first_only n i h.1 h.2 (λ j l. h.3 j (omega arith) l), lt-ltb i n h.1)
 
 -- TESTS THAT AGREE below n
 module _ (f g : ℕ → Bool) where
-  -- it holds at some place of both or of neither
-  pub some_same : (n : ℕ) → ((i : ℕ) → i < n → f i ≡ g i) → some f n ≡ some g n
-  unfolding some
-  some_same zero h = refl
-  some_same (suc n) h = rw (some_same n (λ i l. h i (omega arith)), h n (omega arith))
-
   -- they have the same first place
   pub first_same : (n : ℕ) → ((i : ℕ) → i < n → f i ≡ g i) → first_of f n ≡ first_of g n
   unfolding first_of
   first_same zero h = refl
   first_same (suc n) h = rw (first_same n (λ i l. h i (omega arith)), h n (omega arith))
+
+-- THE LEAST PLACE IN A LIST, as a search over the first n of its elements answers it
+module _ {A : Type 0} (p : A → Bool) (xs : List A) (d : A) where
+  abbrev at : ℕ → Bool
+  at j = p (get_or xs j d)
+
+  pub place_of_all : cond (ltb (position_or_len p xs) (length xs)) (Some (position_or_len p xs)) None ≡ place_below (first_of at (length xs)) (length xs)
+  unfolding pick
+  place_of_all =
+      let n = length xs in
+      rw (position_or_len_is p xs (first_of at n) d (first_le at n) (λ k h. first_least at n k h) (first_holds at n)) (by_test (ltb (first_of at n) n) (λ t. rw t) (λ t. rw t))
+
+pub place_taken : {A : Type 0} (p : A → Bool) (xs : List A) (d : A) (n : ℕ) → n ≤ length xs
+    → cond (ltb (position_or_len p (take n xs)) (length (take n xs))) (Some (position_or_len p (take n xs))) None ≡ place_below (first_of (λ j. p (get_or xs j d)) n) n
+place_taken p xs d n h =
+    place_of_all p (take n xs) d
+    ∙ rw (length-take-le n xs h) (ap (λ (i : ℕ). place_below i n) (first_same (λ j. p (get_or (take n xs) j d)) (λ j. p (get_or xs j d)) n (λ j l. ap p (get_or-take n xs j d l))))
+
+-- a test that holds of one of the first n elements holds at some place below n
+pub some_taken : {A : Type 0} (p : A → Bool) (xs : List A) (d : A) (n : ℕ) → n ≤ length xs → list_any p (take n xs) ≡ some (λ j. p (get_or xs j d)) n
+unfolding some
+some_taken p xs d zero h = refl
+some_taken p xs d (suc n) h = rw (take-suc xs n d h) (or_push (list_any p) p refl (λ x l. refl) (take n xs) (get_or xs n d) ∙ ap (λ (b : Bool). b || p (get_or xs n d)) (some_taken p xs d n (omega arith)))

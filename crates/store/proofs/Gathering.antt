@@ -7,16 +7,15 @@ use native.Mathlib.Omega.{arith}
 use lib.ListN.{length, take, drop, set, length-drop, length-set, drop_of_length-le}
 use lib.Seq.{drop-drop, take-length, take-suc-set}
 use Rattle.units.specs.declared.refusal.Refusal.{Refusal}
-use Rattle.units.specs.declared.refusal.Verdict.TheVariants.{Taken, Refused}
+use Rattle.std.proofs.Common.{Ok, Err}
 use Rattle.fields.specs.declared.text.Scan.{Scan}
 use Rattle.fields.specs.Lines.{feed_at, lines_of}
 use Rattle.fields.specs.Text.{line_feed, until, scanned}
 use Rattle.fields.proofs.Cases.{by_lt}
 use Rattle.fields.proofs.Lines.{feed_split, feed_line, feed_none, lines_feed, lines_last, lines_none}
 use Rattle.fields.proofs.Texts.{until_lacks, until_short}
-use Rattle.store.specs.declared.row.Entry.{Entry}
 use Rattle.store.specs.declared.row.Row.{Row}
-use Rattle.store.specs.Row.{row_of}
+use Rattle.store.specs.Row.{Entry, row_of}
 use Rattle.store.specs.Rows.{Rows, rows, bad, before, rows_from, rows_of}
 
 -- WHERE A LINE ENDS
@@ -113,19 +112,19 @@ module _ (export : List ℕ) (done : List Row) (n at end : ℕ) (g : Gathering e
 
   module _ (x : Entry) (xe : x ≡ row_of (take (end - at) (drop at export))) where
     -- a bad line is told, and a good one is a row more
-    pub gather_bad : (why : Refusal) → x.verdict ≡ Refused why → bad why (n + 1) ≡ rows_of export
+    pub gather_bad : (why : Refusal) → x ≡ Err why → bad why (n + 1) ≡ rows_of export
     unfolding rows_from
     gather_bad why v = sym (g.same ∙ rw (line_off export at end h e, ← xe, v) (ahead_bad (take n done) why (n + 1)))
 
-    pub gather_more : x.verdict ≡ Taken → Gathering export (set done n x.row) (n + 1) end
+    pub gather_more : (row : Row) → x ≡ Ok row → Gathering export (set done n row) (n + 1) end
     unfolding rows_from
-    gather_more v =
+    gather_more row v =
         let a : n < length done = let c = gather_on.0 in let d = g.long in omega arith in
         record {
           here = gather_on.2;
           few = let f = g.few in let z = ap (λ (ls : List (List ℕ)). length ls) (line_off export at end h e) in omega arith;
-          long = length-set done n x.row ∙ g.long;
-          same = g.same ∙ rw (line_off export at end h e, ← xe, v) (sym (rw (add-one n, take-suc-set done n x.row a) (ahead_more (take n done) x.row _)));
+          long = length-set done n row ∙ g.long;
+          same = g.same ∙ rw (line_off export at end h e, ← xe, v) (sym (rw (add-one n, take-suc-set done n row a) (ahead_more (take n done) row _)));
         }
 
 -- at the end all are rows

@@ -1,4 +1,4 @@
--- A row of a table as the code reads it. Assumes nothing.
+-- A row of an array as the code reads it. Assumes nothing.
 use Prim.Native.Nat.{ℕ, zero, suc, ◌<◌}
 use mathlib.Core.Path.{◌≡◌, refl}
 use mathlib.Core.List.{List, [], ◌∷◌}

@@ -1,5 +1,6 @@
 -- What the functions that put the K lines need. Assumes nothing.
 use Prim.Native.Nat.{ℕ, ◌+◌, ◌-◌, ◌*◌, ◌≤◌, ◌<◌}
+use Rattle.std.proofs.Common.{Ok, Err}
 use mathlib.Core.Path.{◌≡◌, refl, sym, ap, ◌∙◌}
 use mathlib.Core.Bool.{true, false}
 use mathlib.Core.List.{List, [], ◌++◌, append_assoc}
@@ -18,15 +19,13 @@ use Rattle.message.specs.Settings.{settings_fit}
 use Rattle.fields.specs.Put.{put}
 use Rattle.fields.proofs.Cases.{absurd_by}
 use Rattle.fields.proofs.Puts.{put_room, mid_rest, put_rest}
-use Rattle.lines.specs.declared.write.Written.{Written}
-use Rattle.lines.specs.declared.write.Written.TheVariants.{Done as Wrote, Refused as Unwritten}
+use Rattle.lines.specs.Writing.{Written}
 use Rattle.lines.specs.Lists.{joined}
 use Rattle.lines.specs.Settings.{setting_fits}
 use Rattle.lines.specs.Writing.{write_answer, write_buffer}
 use Rattle.store.specs.declared.stored.Place.TheVariants.{Nowhere}
-use Rattle.store.specs.declared.stored.Stored.TheVariants.{Done, Refused}
 use Rattle.store.specs.Runs.{run_at, runs_text}
-use Rattle.store.specs.Stored.{says, answer_in, buffer_in}
+use Rattle.store.specs.Stored.{refused, says, answer_in, buffer_in}
 use Rattle.store.proofs.RunLines.{runs_top_lem, run_short, text_short}
 
 -- ONE LINE, with room for any
@@ -39,7 +38,7 @@ module _ (s : Settings) (i : ℕ) (out d : List ℕ) (a : Written) (pre : (setti
   no_less : ltb (length out) (length (run_at s i)) ≡ false
   no_less = le-ltb (length out) (length (run_at s i)) (omega (arith, run_short s pre.0 i pre.1, pre.2))
 
-  is_done : a ≡ Wrote (length (run_at s i))
+  is_done : a ≡ Ok (length (run_at s i))
   unfolding write_answer pick
   is_done = said.0 ∙ rw (fits, no_less)
 
@@ -48,11 +47,11 @@ module _ (s : Settings) (i : ℕ) (out d : List ℕ) (a : Written) (pre : (setti
   there = said.1 ∙ rw (fits, no_less)
 
   -- its bytes are put
-  pub one_put : (len : ℕ) → a ≡ Wrote len → (len ≡ length (run_at s i)) × (d ≡ run_at s i ++ drop (length (run_at s i)) out)
+  pub one_put : (len : ℕ) → a ≡ Ok len → (len ≡ length (run_at s i)) × (d ≡ run_at s i ++ drop (length (run_at s i)) out)
   one_put len q = (let x = sym q ∙ is_done in cc, there)
 
   -- it is never refused
-  pub one_never : {A : Type 0} (why : Refusal) → a ≡ Unwritten why → A
+  pub one_never : {A : Type 0} (why : Refusal) → a ≡ Err why → A
   one_never why q = absurd_by (let x = sym q ∙ is_done in cc)
 
 -- LINE AFTER LINE: what is put after i of them
@@ -140,16 +139,16 @@ module _ (s : Settings) (fits : settings_fit s ≡ true) (len : ℕ) (long : len
     X = runs_text s s.numbers.group.m
 
     -- 16, and the buffer stays
-    pub no_room : length buf < len → (Refused Room Nowhere ≡ answer_in (says X) buf) × (buf ≡ buffer_in (says X) buf)
+    pub no_room : length buf < len → (refused Room Nowhere ≡ answer_in (says X) buf) × (buf ≡ buffer_in (says X) buf)
     unfolding pick
     no_room h = rw (lt-ltb (length buf) (length X) (omega arith)) (refl, refl)
 
     -- they are put at the buffer's front
-    pub all_put : (own rest d : List ℕ) → own ≡ X ++ rest → len ≤ length buf → d ≡ put buf 0 (take len own) → (Done len ≡ answer_in (says X) buf) × (d ≡ buffer_in (says X) buf)
+    pub all_put : (own rest d : List ℕ) → own ≡ X ++ rest → len ≤ length buf → d ≡ put buf 0 (take len own) → (Ok len ≡ answer_in (says X) buf) × (d ≡ buffer_in (says X) buf)
     unfolding pick
     all_put own rest d o h e =
         let z : 0 + length X ≡ length X = omega arith in
         let k : 0 + length X ≤ length buf = omega arith in
         let f : take len own ≡ X = ap (take len) o ∙ take_at X rest len (sym long) in
         rw (le-ltb (length buf) (length X) (omega arith))
-        (ap Done long, e ∙ ap (put buf 0) f ∙ put_room buf 0 X k ∙ sets-eq X buf 0 k ∙ ap (λ (m : ℕ). X ++ drop m buf) z)
+        (ap Ok long, e ∙ ap (put buf 0) f ∙ put_room buf 0 X k ∙ sets-eq X buf 0 k ∙ ap (λ (m : ℕ). X ++ drop m buf) z)

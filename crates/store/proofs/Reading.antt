@@ -2,52 +2,49 @@
 use Prim.Native.Nat.{ℕ, ◌+◌, ◌≤◌, ◌<◌}
 use mathlib.Core.Path.{◌≡◌, refl, sym, ap, ◌∙◌}
 use mathlib.Core.List.{List, []}
-use mathlib.Core.Bool.{true, false, not}
+use mathlib.Core.Bool.{true}
 use native.Mathlib.Omega.{arith}
 use lib.ListN.{length, get_or, take, drop}
 use lib.Dec.{eqb}
-use borrow.Author.Tests.{eq-eqb, ne_eqb, le-leb, lt-leb, not-true, not-false}
+use borrow.Author.Tests.{eq-eqb, ne_eqb, le-leb, lt-leb}
 use Rattle.units.specs.declared.refusal.Refusal.TheVariants.{Long, Unended, Fields, Form as NoForm}
 use Rattle.units.specs.Limits.{factor_low, factor_top}
+use Rattle.std.proofs.Common.{Some, None, Option, Result}
 use Rattle.units.specs.Pick.{pick}
-use Rattle.message.specs.declared.certificate.Certificate.{Certificate}
-use Rattle.fields.specs.declared.digit.Digits.{Digits}
-use Rattle.fields.specs.declared.digit.Digits.TheVariants.{Said, Wrong}
+use Rattle.fields.specs.declared.field.Fault.{Fault}
 use Rattle.fields.specs.declared.field.Field.{Field}
 use Rattle.fields.specs.declared.spelling.Spelling.TheVariants.{Factor}
 use Rattle.fields.specs.declared.text.Scan.{Scan}
 use Rattle.fields.specs.Certificate.{is_certificate}
-use Rattle.fields.specs.Day.{date_fits, day_judged, day_in, day_at}
+use Rattle.fields.specs.Day.{date_fits, day_judged, day_in}
 use Rattle.fields.specs.Field.{fits, judge, read_field, read_at}
 use Rattle.fields.specs.Text.{until, fields_of, field_at, next_at, scanned, tabs_in}
 use Rattle.fields.proofs.Cases.{by_test}
 use Rattle.fields.proofs.Texts.{cursor_field, cursor_more, until_take, fields_count}
 use Rattle.lines.specs.Settling.{certificate_of}
-use Rattle.store.specs.declared.name.Named.{Named}
-use Rattle.store.specs.declared.row.Entry.{Entry}
-use Rattle.store.specs.Row.{name_in, name_at, bad_row, good_row, after_field, row_in, row_text, row_of, rest_at, row_at}
+use Rattle.store.specs.Row.{Entry, name_in, bad_row, good_row, after_field, row_in, row_text, row_of, rest_at, row_at}
 
 -- what the last two of four fields lead to, and the last of them
-abbrev pub last_in : List (List ℕ) → ℕ → Field → Entry
+abbrev pub last_in : List (List ℕ) → ℕ → Result Field Fault → Entry
 last_in fs day = after_field (λ factor next. good_row (certificate_of (get_or fs 0 [])) day (certificate_of (get_or fs 2 [])) factor)
 
 abbrev pub rest_in : List (List ℕ) → ℕ → Entry
 rest_in fs day = pick (is_certificate (get_or fs 2 [])) (last_in fs day (read_field Factor factor_low factor_top 0 (get_or fs 3 []))) (bad_row NoForm)
 
 -- BY FIELDS AND FROM PLACE TO PLACE: where the next field starts makes no difference to what a field leads to
-dated_after : (go gone : ℕ → ℕ → Entry) (a b : ℕ) (d : Digits) → ((n : ℕ) → go n a ≡ gone n b) → after_field go (day_judged a d) ≡ after_field gone (day_judged b d)
+dated_after : (go gone : ℕ → ℕ → Entry) (a b : ℕ) (d : Option ℕ) → ((n : ℕ) → go n a ≡ gone n b) → after_field go (day_judged a d) ≡ after_field gone (day_judged b d)
 unfolding day_judged
-dated_after go gone a b (Said n) h = by_test (date_fits n) (λ t. rw t (h n)) (λ t. rw t)
-dated_after go gone a b Wrong h = refl
+dated_after go gone a b (Some n) h = by_test (date_fits n) (λ t. rw t (h n)) (λ t. rw t)
+dated_after go gone a b None h = refl
 
 day_after : (go gone : ℕ → ℕ → Entry) (a b : ℕ) (cs : List ℕ) → ((n : ℕ) → go n a ≡ gone n b) → after_field go (day_in a cs) ≡ after_field gone (day_in b cs)
 unfolding day_in
 day_after go gone a b cs h = dated_after go gone a b _ h
 
-judged_after : (go : ℕ → Entry) (low high a b : ℕ) (d : Digits) → after_field (λ n next. go n) (judge Factor low high a d) ≡ after_field (λ n next. go n) (judge Factor low high b d)
+judged_after : (go : ℕ → Entry) (low high a b : ℕ) (d : Option ℕ) → after_field (λ n next. go n) (judge Factor low high a d) ≡ after_field (λ n next. go n) (judge Factor low high b d)
 unfolding judge
-judged_after go low high a b (Said n) = by_test (fits Factor low high n) (λ t. rw t) (λ t. rw t)
-judged_after go low high a b Wrong = refl
+judged_after go low high a b (Some n) = by_test (fits Factor low high n) (λ t. rw t) (λ t. rw t)
+judged_after go low high a b None = refl
 
 factor_after : (go : ℕ → Entry) (low high a b : ℕ) (cs : List ℕ) → after_field (λ n next. go n) (read_field Factor low high a cs) ≡ after_field (λ n next. go n) (read_field Factor low high b cs)
 unfolding read_field
@@ -92,26 +89,6 @@ module _ (text : List ℕ) (four : length (fields_of text) ≡ 4) where
       (by_test (is_certificate (field_at text 0))
       (λ t. rw t (day_after (rest_at text (certificate_of (field_at text 0))) (λ day next. rest_in (fields_of text) day) p2 0 (field_at text p1) rest_same))
       (λ t. rw t))
-
--- `rest_at`, by the name and then by what the factor is
-module _ (text : List ℕ) (s : Certificate) (day at : ℕ) (paper : Named) (pe : paper ≡ name_at text at) (r : Entry) where
-  pub rest_none : not paper.fit ≡ true → r ≡ bad_row NoForm → r ≡ rest_at text s day at
-  unfolding rest_at pick
-  rest_none t e = rw (← pe, not-true paper.fit t) e
-
-  pub rest_read : not paper.fit ≡ false → (f x : Field) → f ≡ read_at text paper.next Factor factor_low factor_top → f ≡ x → r ≡ after_field (λ factor next. good_row s day paper.name factor) x → r ≡ rest_at text s day at
-  unfolding rest_at pick
-  rest_read t f x q u e = rw (← pe, not-false paper.fit t, ← q, u) e
-
--- `row_at`, by the name and then by what the day is
-module _ (text : List ℕ) (s : Named) (se : s ≡ name_at text 0) (r : Entry) where
-  pub serial_none : not s.fit ≡ true → r ≡ bad_row NoForm → r ≡ row_at text
-  unfolding row_at pick
-  serial_none t e = rw (← se, not-true s.fit t) e
-
-  pub serial_read : not s.fit ≡ false → (f x : Field) → f ≡ day_at text s.next → f ≡ x → r ≡ after_field (rest_at text s.name) x → r ≡ row_at text
-  unfolding row_at pick
-  serial_read t f x q u e = rw (← se, not-false s.fit t, ← q, u) e
 
 -- `row_of`: too long, not ended, not four fields, or what they are
 module _ (line : List ℕ) (r : Entry) where

@@ -1,5 +1,6 @@
 -- WHAT THE STORE ANSWERS, EXACTLY: each answer under its condition, in the order of the checks. Assumes nothing.
 use Prim.Native.Nat.{ℕ, ◌+◌, ◌≤◌}
+use Rattle.std.proofs.Common.{Ok}
 use mathlib.Core.Path.{◌≡◌, refl, sym, ap, subst, ◌∙◌}
 use mathlib.Core.Bool.{Bool, true, false, not}
 use mathlib.Core.List.{List, ◌++◌}
@@ -7,6 +8,7 @@ use native.Mathlib.Omega.{arith}
 use lib.Dec.{ltb}
 use lib.ListN.{length, drop}
 use borrow.Author.Tests.{lt-ltb, le-ltb, eqb-true, eqb-false, eq-eqb, ne_eqb, not-false}
+use Rattle.std.specs.Prelude.{Result, Ok, Err}
 use Rattle.units.specs.declared.refusal.Refusal.{Refusal}
 use Rattle.units.specs.declared.refusal.Refusal.TheVariants.{Form as NoForm, Range as NoRange, SameDay, NoneInForce, Full}
 use Rattle.units.specs.Pick.{pick}
@@ -16,8 +18,10 @@ use Rattle.units.proofs.InRange.{within_range, within_made}
 use Rattle.message.specs.InRange.{CertificateInRange}
 use Rattle.message.specs.Settings.{certificate_fits}
 use Rattle.message.proofs.InRange.{certificate_exact}
+use Rattle.fields.specs.declared.field.Fault.{Fault}
 use Rattle.fields.specs.declared.field.Field.{Field}
-use Rattle.fields.specs.declared.field.Field.TheVariants.{Value, Form, Range}
+use Rattle.fields.specs.declared.field.Fault.TheVariants.{Form, Range}
+use Rattle.fields.specs.Field.{value}
 use Rattle.fields.specs.Day.{day_in}
 use Rattle.fields.specs.Lines.{lines_of}
 use Rattle.fields.proofs.Cases.{by_test, by_lt, absurd_by}
@@ -26,8 +30,6 @@ use Rattle.store.specs.declared.row.Row.{Row}
 use Rattle.store.specs.declared.stored.Place.{Place}
 use Rattle.store.specs.declared.stored.Place.TheVariants.{Nowhere, Line, Day, Count, Run}
 use Rattle.store.specs.declared.stored.Serials.{Serials}
-use Rattle.store.specs.declared.stored.Stored.{Stored}
-use Rattle.store.specs.declared.stored.Stored.TheVariants.{Done, Refused}
 use Rattle.store.specs.First.{first_of}
 use Rattle.store.specs.Newest.{Newest}
 use Rattle.store.specs.Repeated.{stood_at, repeated_at}
@@ -36,17 +38,13 @@ use Rattle.store.specs.Runs.{serial_at, found, is_blank, text_of}
 use Rattle.store.specs.Says.{Listed, Dated, Counted, Asked, Apart, Forceless, AllFound, RowRefused, Says, is_given}
 use Rattle.store.specs.Says.RowRefused.{long, unended, fields, serial as row-serial, day_form as row-day-form, day_range as row-day-range, certificate, factor_form, factor_range}
 use Rattle.store.specs.Says.Says.{full, line, day_form, day_range, count, serial, shared, none, room, done}
-use Rattle.store.specs.Stored.{Outcome, says, no, in_force, apart, bad_serial, named, on_day, outcome_of, answer_in, buffer_in, stored, stored_number}
+use Rattle.store.specs.Stored.{Stored, refused, Outcome, says, no, in_force, apart, bad_serial, named, on_day, outcome_of, answer_in, buffer_in, stored, stored_number}
 use Rattle.store.proofs.Exact.{newest_exact}
 use Rattle.store.proofs.Firsts.{first_holds, first_least, first_never, first_only, first_all, never_both}
 use Rattle.store.proofs.Repeats.{stood_exact, stood_not, not_stood}
 use Rattle.store.proofs.RowRefusals.{line_says, line_bad}
 use Rattle.store.proofs.Rows.{rows_exact, listed_in_range}
-use Rattle.store.proofs.Stages.{force_no, force_yes, apart_no, apart_yes, named_no, named_yes, named_many, full_no, lines_bad, lines_good}
-
--- a number that is not 1 to 16
-not_within : (m : ℕ) → ((1 ≤ m) × (m ≤ 16) → ⊥) → within 1 16 m ≡ false
-not_within m n = by_test (within 1 16 m) (λ t. absurd (n (within_range 1 16 m t))) (λ t. t)
+use Rattle.store.proofs.Stages.{force_no, force_yes, apart_no, apart_yes, named_no, named_yes, named_many, not_within, full_no, lines_bad, lines_good}
 
 -- a serial that is fit, and one that is not
 fit_not_bad : (s : Serials) (i : ℕ) → CertificateInRange (serial_at s i) → bad_serial s i ≡ false
@@ -106,7 +104,7 @@ module _ (export day : List ℕ) (s : Serials) (buf : List ℕ) where
   abbrev answer : Stored
   answer = answer_in (outcome_of export day s) buf
 
-  refuses : (why : Refusal) (place : Place) → outcome_of export day s ≡ no why place → Refused why place ≡ answer
+  refuses : (why : Refusal) (place : Place) → outcome_of export day s ≡ no why place → refused why place ≡ answer
   refuses why place e = rw e
 
   given : {a : Stored} → Says export day s buf a → a ≡ answer
@@ -166,10 +164,10 @@ module _ (export day : List ℕ) (s : Serials) (buf : List ℕ) where
       by_test (within 1 16 s.m) (λ t. serials_left rs n (record { dated = d; runs = within_range 1 16 s.m t }))
       (λ t. said (count rs n d (λ r. never_both (within 1 16 s.m) (within_made 1 16 s.m r) t)))
 
-  day_left : (rs : List Row) → Listed export rs → (x : Field) → day_in 0 day ≡ x → Answered
-  day_left rs l Form e = said (day_form rs l e)
-  day_left rs l Range e = said (day_range rs l e)
-  day_left rs l (Value n next) e = count_left rs n (record { listed = l; date = e ∙ ap (Value n) (day_only 0 day n next e).2 })
+  day_left : (rs : List Row) → Listed export rs → (x : Result Field Fault) → day_in 0 day ≡ x → Answered
+  day_left rs l (Err Form) e = said (day_form rs l e)
+  day_left rs l (Err Range) e = said (day_range rs l e)
+  day_left rs l (Ok f) e = count_left rs f.n (record { listed = l; date = e ∙ ap (value f.n) (day_only 0 day f.n f.next e).2 })
 
   lines_left : length (lines_of export) ≤ 512 → (x : Rows) → rows_of export ≡ x → Answered
   lines_left few (rows rs) e = day_left rs (record { few = few; rows = (rows_exact 1 (lines_of export) rs).0 e }) (day_in 0 day) refl
@@ -210,22 +208,22 @@ store_numbers export day s buf = of (answered export day s buf)
     of (done rs n a h) = refl
 
 -- THE BUFFER: on any refusal what it held; where it is done the K lines, and past them what it held
-buffer_kept : (o : Outcome) (buf : List ℕ) (why : Refusal) (place : Place) → answer_in o buf ≡ Refused why place → buffer_in o buf ≡ buf
+buffer_kept : (o : Outcome) (buf : List ℕ) (why : Refusal) (place : Place) → answer_in o buf ≡ refused why place → buffer_in o buf ≡ buf
 unfolding pick
 buffer_kept (says text) buf why place = by_test (ltb (length buf) (length text)) (λ t. rw t (λ e. refl)) (λ t. rw t (λ e. absurd_by (cc)))
 buffer_kept (no w p) buf why place = λ e. refl
 
-buffer_put : (o : Outcome) (buf : List ℕ) (len : ℕ) → answer_in o buf ≡ Done len → (text : List ℕ) × (o ≡ says text) × (len ≡ length text) × (buffer_in o buf ≡ text ++ drop len buf)
+buffer_put : (o : Outcome) (buf : List ℕ) (len : ℕ) → answer_in o buf ≡ Ok len → (text : List ℕ) × (o ≡ says text) × (len ≡ length text) × (buffer_in o buf ≡ text ++ drop len buf)
 unfolding pick
 buffer_put (says text) buf len =
     by_test (ltb (length buf) (length text)) (λ t. rw t (λ e. absurd_by (cc))) (λ t. rw t (λ e. let z : len ≡ length text = cc in (text, refl, z, rw z)))
 buffer_put (no w p) buf len = λ e. absurd_by (cc)
 
 module _ (export day : List ℕ) (s : Serials) (buf : List ℕ) where
-  pub store_keeps : (why : Refusal) (place : Place) → (stored export day s buf).0 ≡ Refused why place → (stored export day s buf).1 ≡ buf
+  pub store_keeps : (why : Refusal) (place : Place) → (stored export day s buf).0 ≡ refused why place → (stored export day s buf).1 ≡ buf
   store_keeps why place = buffer_kept (outcome_of export day s) buf why place
 
-  pub store_puts : (len : ℕ) → (stored export day s buf).0 ≡ Done len → (text : List ℕ) × (outcome_of export day s ≡ says text) × (len ≡ length text) × ((stored export day s buf).1 ≡ text ++ drop len buf)
+  pub store_puts : (len : ℕ) → (stored export day s buf).0 ≡ Ok len → (text : List ℕ) × (outcome_of export day s ≡ says text) × (len ≡ length text) × ((stored export day s buf).1 ≡ text ++ drop len buf)
   store_puts len = buffer_put (outcome_of export day s) buf len
 
 -- K LINES are said where every check is passed, and they are those of the newest certificates
@@ -236,7 +234,7 @@ pub record Found (export day : List ℕ) (s : Serials) (text : List ℕ) : Type 
   pub text_is : text ≡ text_of s.m (found s n rs)
 
 module _ (export day : List ℕ) (s : Serials) (text : List ℕ) (e : outcome_of export day s ≡ says text) where
-  by_done : {a : Stored} → Says export day s text a → a ≡ Done (length text) → Found export day s text
+  by_done : {a : Stored} → Says export day s text a → a ≡ Ok (length text) → Found export day s text
   by_done (full h) q = absurd_by (cc)
   by_done (line why i few h before r) q = absurd_by (cc)
   by_done (day_form rs l d) q = absurd_by (cc)
@@ -251,5 +249,5 @@ module _ (export day : List ℕ) (s : Serials) (text : List ℕ) (e : outcome_of
   pub says_found : Found export day s text
   unfolding pick
   says_found =
-      let a : Done (length text) ≡ answer_in (outcome_of export day s) text = rw (e, le-ltb (length text) (length text) (omega arith)) in
-      by_done ((store_refusals export day s text (Done (length text))).0 a) refl
+      let a : Ok (length text) ≡ answer_in (outcome_of export day s) text = rw (e, le-ltb (length text) (length text) (omega arith)) in
+      by_done ((store_refusals export day s text (Ok (length text))).0 a) refl

@@ -1,17 +1,17 @@
 -- A LINE OF AN EXPORT: what is taken is the one spelling of a row in range, and every such row is taken in it. Assumes nothing.
 use Prim.Native.Nat.{ℕ, zero, suc, ◌+◌, ◌/◌, ◌%◌, ◌≤◌, ◌<◌}
-use mathlib.Core.Path.{◌≡◌, refl, sym, ap, ◌∙◌}
+use mathlib.Core.Path.{subst, ◌≡◌, refl, sym, ap, ◌∙◌}
 use mathlib.Core.List.{List, [], ◌∷◌, ◌++◌, append-nil}
 use mathlib.Core.Bool.{true}
 use native.Mathlib.Omega.{arith}
 use lib.ListN.{length, get_or, length-append}
 use lib.Dec.{eqb, leb}
 use borrow.Author.Tests.{eqb-true, eq-eqb, ne_eqb, le-leb}
-use Rattle.units.specs.declared.refusal.Verdict.TheVariants.{Taken}
+use Rattle.std.proofs.Common.{Result, Ok, Err}
 use Rattle.units.specs.Limits.{factor_low, factor_top}
 use Rattle.units.specs.Pick.{pick}
 use Rattle.fields.specs.declared.field.Field.{Field}
-use Rattle.fields.specs.declared.field.Field.TheVariants.{Value, Form, Range}
+use Rattle.fields.specs.declared.field.Fault.{Fault}
 use Rattle.fields.specs.declared.spelling.Spelling.TheVariants.{Factor}
 use Rattle.fields.specs.Certificate.{is_certificate}
 use Rattle.fields.specs.Day.{date_fits, day_in}
@@ -27,6 +27,7 @@ use Rattle.fields.proofs.Spellings.{field_only, field_read, fits_range, range_fi
 use Rattle.fields.proofs.Texts.{text_only, fields_back, until_append, lacks_append, tabbed_lacks}
 use Rattle.lines.specs.Settings.{bytes_of}
 use Rattle.lines.proofs.WholeSettings.{certificate_made, certificate_again, bytes_shown, bytes_again}
+use Rattle.lines.specs.Settling.{certificate_of}
 use Rattle.store.specs.declared.row.Row.{Row}
 use Rattle.store.specs.Row.{good_row, after_field, row_in, row_text, row_of, row_line, RowInRange}
 use Rattle.store.proofs.Reading.{last_in, rest_in}
@@ -41,32 +42,31 @@ record Given (fs : List (List ℕ)) (x : Row) : Type 0 where
 
 module _ (fs : List (List ℕ)) (a : is_certificate (get_or fs 0 []) ≡ true) where
   module _ (day : ℕ) (s : get_or fs 1 [] ≡ fixed 10 8 day) (t : date_fits day ≡ true) where
-    factor_given : is_certificate (get_or fs 2 []) ≡ true → (d : Field) → read_field Factor factor_low factor_top 0 (get_or fs 3 []) ≡ d → (last_in fs day d).verdict ≡ Taken → Given fs (last_in fs day d).row
-    factor_given b (Value n next) q e =
-        let o = field_only Factor factor_low factor_top 0 (get_or fs 3 []) n next q in
-        let i = fits_range Factor factor_low factor_top n o.inside in
-        record {
+    factor_given : is_certificate (get_or fs 2 []) ≡ true → (d : Result Field Fault) → read_field Factor factor_low factor_top 0 (get_or fs 3 []) ≡ d → (x : Row) → last_in fs day d ≡ Ok x → Given fs x
+    factor_given b (Ok f) q x e =
+        let o = field_only Factor factor_low factor_top 0 (get_or fs 3 []) f.n f.next q in
+        let i = fits_range Factor factor_low factor_top f.n o.inside in
+        let w : Given fs (record { serial = certificate_of (get_or fs 0 []); day = day; certificate = certificate_of (get_or fs 2 []); factor = f.n }) = record {
           range = record { serial = certificate_made (get_or fs 0 []) a; day = t; certificate = certificate_made (get_or fs 2 []) b; factor = (i.least, i.most) };
           serial = bytes_again (get_or fs 0 []) a;
           day = s;
           certificate = bytes_again (get_or fs 2 []) b;
           factor = o.spelt;
-        }
-    factor_given b Form q e = absurd_by (cc)
-    factor_given b Range q e = absurd_by (cc)
+        } in
+        subst (Given fs) (cc) w
+    factor_given b (Err why) q x e = absurd_by (cc)
 
-    rest_given : (rest_in fs day).verdict ≡ Taken → Given fs (rest_in fs day).row
+    rest_given : (x : Row) → rest_in fs day ≡ Ok x → Given fs x
     unfolding pick
-    rest_given = by_test (is_certificate (get_or fs 2 [])) (λ b. rw b (factor_given b _ refl)) (λ b. rw b (λ e. absurd_by (cc)))
+    rest_given x = by_test (is_certificate (get_or fs 2 [])) (λ b. rw b (factor_given b _ refl x)) (λ b. rw b (λ e. absurd_by (cc)))
 
-  day_given : (d : Field) → day_in 0 (get_or fs 1 []) ≡ d → (after_field (λ day next. rest_in fs day) d).verdict ≡ Taken → Given fs (after_field (λ day next. rest_in fs day) d).row
-  day_given (Value n next) q e = let o = day_only 0 (get_or fs 1 []) n next q in rest_given n o.0 o.1 e
-  day_given Form q e = absurd_by (cc)
-  day_given Range q e = absurd_by (cc)
+  day_given : (d : Result Field Fault) → day_in 0 (get_or fs 1 []) ≡ d → (x : Row) → after_field (λ day next. rest_in fs day) d ≡ Ok x → Given fs x
+  day_given (Ok f) q x e = let o = day_only 0 (get_or fs 1 []) f.n f.next q in rest_given f.n o.0 o.1 x e
+  day_given (Err why) q x e = absurd_by (cc)
 
-in_given : (fs : List (List ℕ)) → (row_in fs).verdict ≡ Taken → Given fs (row_in fs).row
+in_given : (fs : List (List ℕ)) (x : Row) → row_in fs ≡ Ok x → Given fs x
 unfolding row_in pick
-in_given fs = by_test (is_certificate (get_or fs 0 [])) (λ a. rw a (day_given fs a (day_in 0 (get_or fs 1 [])) refl)) (λ a. rw a (λ e. absurd_by (cc)))
+in_given fs x = by_test (is_certificate (get_or fs 0 [])) (λ a. rw a (day_given fs a (day_in 0 (get_or fs 1 [])) refl x)) (λ a. rw a (λ e. absurd_by (cc)))
 
 -- WHAT IS TAKEN
 three : (fs : List (List ℕ)) → length fs ≡ 3 → fs ≡ get_or fs 0 [] ∷ get_or fs 1 [] ∷ get_or fs 2 [] ∷ []
@@ -89,21 +89,19 @@ row_text_is text x e w =
     let q : length (later_fields text) ≡ 3 = omega arith in
     text_only text ∙ ap (λ (fs : List (List ℕ)). first_field text ++ tabbed fs) (three (later_fields text) q) ∙ rw (w.serial, w.certificate, ← w.day, ← w.factor)
 
-fields_only : (line text : List ℕ) → line ≡ text ++ (10 ∷ []) → length (fields_of text) ≡ 4 → (row_in (fields_of text)).verdict ≡ Taken
-    → RowInRange (row_in (fields_of text)).row × (line ≡ row_line (row_in (fields_of text)).row)
-fields_only line text l four e =
-    let x = (row_in (fields_of text)).row in
-    let w = in_given (fields_of text) e in
+fields_only : (line text : List ℕ) → line ≡ text ++ (10 ∷ []) → length (fields_of text) ≡ 4 → (x : Row) → row_in (fields_of text) ≡ Ok x → RowInRange x × (line ≡ row_line x)
+fields_only line text l four x e =
+    let w = in_given (fields_of text) x e in
     (w.range, l ∙ ap {B = List ℕ} (λ (t : List ℕ). t ++ (10 ∷ [])) (row_text_is text x four w) ∙ row_line_is x)
 
 -- THE LAW: a line that is taken is the one spelling of its row, which is in range
-pub row_only : (line : List ℕ) → (row_of line).verdict ≡ Taken → RowInRange (row_of line).row × (line ≡ row_line (row_of line).row)
+pub row_only : (line : List ℕ) (x : Row) → row_of line ≡ Ok x → RowInRange x × (line ≡ row_line x)
 unfolding row_of row_text pick
-row_only line =
+row_only line x =
     by_test (leb (length line) 600)
     (λ a. rw a (by_test (eqb (length (until 10 line) + 1) (length line))
     (λ b. rw b (by_test (eqb (length (fields_of (until 10 line))) 4)
-    (λ d. rw d (fields_only line (until 10 line) (feed_last line (eqb-true (length (until 10 line) + 1) (length line) b)) (eqb-true (length (fields_of (until 10 line))) 4 d)))
+    (λ d. rw d (fields_only line (until 10 line) (feed_last line (eqb-true (length (until 10 line) + 1) (length line) b)) (eqb-true (length (fields_of (until 10 line))) 4 d) x))
     (λ d. rw d (λ e. absurd_by (cc)))))
     (λ b. rw b (λ e. absurd_by (cc)))))
     (λ a. rw a (λ e. absurd_by (cc)))

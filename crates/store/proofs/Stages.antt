@@ -1,6 +1,6 @@
 -- The checks of `write_runs` one after the other: where one refuses, and where it goes on. Assumes nothing.
 use Prim.Native.Nat.{ℕ, ◌+◌, ◌≤◌, ◌<◌}
-use mathlib.Core.Path.{◌≡◌, refl, ap, ◌∙◌}
+use mathlib.Core.Path.{◌≡◌, ap, ◌∙◌}
 use mathlib.Core.Bool.{true, false}
 use mathlib.Core.List.{List}
 use lib.ListN.{length}
@@ -9,27 +9,23 @@ use Rattle.units.specs.declared.refusal.Refusal.{Refusal}
 use Rattle.units.specs.declared.refusal.Refusal.TheVariants.{Form as NoForm, Range as NoRange, SameDay, NoneInForce, Full}
 use Rattle.units.specs.Pick.{pick}
 use Rattle.units.specs.Within.{within}
+use Rattle.units.proofs.InRange.{within_range}
 use Rattle.fields.specs.Day.{day_in}
 use Rattle.fields.specs.Lines.{lines_of}
 use Rattle.store.specs.declared.row.Row.{Row}
-use Rattle.store.specs.declared.stored.Place.{Place}
 use Rattle.store.specs.declared.stored.Place.TheVariants.{Nowhere, Line, Count, Run}
 use Rattle.store.specs.declared.stored.Serials.{Serials}
-use Rattle.store.specs.declared.stored.Stored.{Stored}
-use Rattle.store.specs.declared.stored.Stored.TheVariants.{Refused}
 use Rattle.store.specs.First.{first_of}
 use Rattle.store.specs.Repeated.{repeated_at}
 use Rattle.store.specs.Rows.{rows, bad, rows_of}
 use Rattle.store.specs.Runs.{found, is_blank, text_of}
-use Rattle.store.specs.Stored.{Outcome, says, no, in_force, apart, bad_serial, named, on_day, outcome_of, answer_in, buffer_in}
+use Rattle.store.specs.Stored.{Stored, Outcome, says, no, in_force, apart, bad_serial, named, on_day, outcome_of, answer_in, buffer_in}
+use Rattle.fields.proofs.Cases.{by_test}
 use Rattle.store.proofs.Firsts.{first_same}
 
 -- what a function answers and leaves in the buffer, as an outcome has it
 abbrev pub Tells : Outcome → Stored → List ℕ → List ℕ → Type 0
 Tells o answer buf end = (answer ≡ answer_in o buf) × (end ≡ buffer_in o buf)
-
-pub tells_no : (o : Outcome) (why : Refusal) (place : Place) (answer : Stored) (buf : List ℕ) → o ≡ no why place → answer ≡ Refused why place → Tells o answer buf buf
-tells_no o why place answer buf e f = rw e (f, refl)
 
 pub tells_on : (o p : Outcome) (answer : Stored) (buf end : List ℕ) → o ≡ p → Tells p answer buf end → Tells o answer buf end
 tells_on o p answer buf end e t = rw e t
@@ -56,6 +52,10 @@ module _ (s : Serials) (day : ℕ) (rs : List Row) (row : ℕ) (e : row ≡ repe
   pub apart_yes : length rs ≤ row → apart s day rs ≡ in_force s day rs
   unfolding apart pick
   apart_yes h = rw (← e, le-ltb row (length rs) h)
+
+-- a number that is not 1 to 16
+pub not_within : (m : ℕ) → ((1 ≤ m) × (m ≤ 16) → ⊥) → within 1 16 m ≡ false
+not_within m n = by_test (within 1 16 m) (λ t. absurd (n (within_range 1 16 m t))) (λ t. t)
 
 -- 6 and 5 for the serials
 module _ (s : Serials) (day : ℕ) (rs : List Row) where

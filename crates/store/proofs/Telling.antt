@@ -19,10 +19,9 @@ use Rattle.store.specs.declared.kept.Told.{Told}
 use Rattle.store.specs.declared.stored.Place.{Place}
 use Rattle.store.specs.declared.stored.Place.TheVariants.{Nowhere}
 use Rattle.store.specs.declared.stored.Serials.{Serials}
-use Rattle.store.specs.declared.stored.Stored.TheVariants.{Refused}
 use Rattle.store.specs.Kept.{Keeps, buffer_all, keep_top, kept_all, kept_start}
 use Rattle.store.specs.Rows.{rows_top}
-use Rattle.store.specs.Stored.{Outcome, says, no, answer_in, buffer_in, outcome_of}
+use Rattle.store.specs.Stored.{refused, Outcome, says, no, answer_in, buffer_in, outcome_of}
 use Rattle.store.specs.Text.{kept_outcome, place_in, store_place, store_text, tell_buffer, tell_in, text_in, told_buffer, told_of}
 use Rattle.store.proofs.Back.{store_room}
 use Rattle.store.proofs.Counting.{counts_few, counts_many}
@@ -59,7 +58,7 @@ told_is (says text) buf r h = let q = h text refl in rw (le-ltb (length buf) (le
 told_is (no why place) buf r h = let q = refusal_room why in rw (le-ltb (length buf) (length (refusal_line why)) (omega arith)) (over_first (refusal_line why) buf, refl)
 
 -- anywhere
-line_few : (why : Refusal) (place : Place) (buf : List ℕ) → ((tell_in (Refused why place) buf).len ≤ length (tell_buffer (Refused why place) buf)) × (length (tell_buffer (Refused why place) buf) ≡ length buf)
+line_few : (why : Refusal) (place : Place) (buf : List ℕ) → ((tell_in (refused why place) buf).len ≤ length (tell_buffer (refused why place) buf)) × (length (tell_buffer (refused why place) buf) ≡ length buf)
 unfolding pick
 line_few why place buf =
     by_test (ltb (length buf) (length (refusal_line why)))

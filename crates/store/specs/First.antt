@@ -1,5 +1,5 @@
 -- "from the top", "in order": the least place where a test holds.
-use Rattle.std.specs.Prelude.{ℕ, zero, suc, Bool, false, ◌||◌, ltb}
+use Rattle.std.specs.Prelude.{ℕ, zero, suc, Bool, false, ◌||◌, ltb, Option, Some, None}
 use Rattle.units.specs.Pick.{pick}
 
 -- a test that holds at some place below n
@@ -15,3 +15,7 @@ first_of f (suc n) = pick (ltb (first_of f n) n) (first_of f n) (pick (f n) n (s
 -- what is said of that place, or else
 abbrev pub at_first {ℓ} : {A : Type ℓ} → (ℕ → Bool) → ℕ → (ℕ → A) → A → A
 at_first f n found none = pick (ltb (first_of f n) n) (found (first_of f n)) none
+
+-- that place where it is one below n
+abbrev pub place_below : ℕ → ℕ → Option ℕ
+place_below i n = pick (ltb i n) (Some i) None

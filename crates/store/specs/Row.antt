@@ -1,41 +1,42 @@
 -- "one certificate a line, in tabbed fields without a kind, being meter serial .., day .., certificate and factor"
-use Rattle.std.specs.Prelude.{ℕ, ◌≤◌, ◌≡◌, true, false, List, [], ◌∷◌, ◌++◌, eqb, leb, length, get_or}
+use Rattle.std.specs.Prelude.{ℕ, ◌≤◌, ◌≡◌, true, List, [], ◌∷◌, ◌++◌, eqb, leb, length, get_or, Option, Some, None, Result, Ok, Err}
 use Rattle.units.specs.declared.refusal.Refusal.{Refusal}
-use Rattle.units.specs.declared.refusal.Refusal.TheVariants.{Long, Unended, Fields, Form as NoForm, Range as NoRange}
-use Rattle.units.specs.declared.refusal.Verdict.TheVariants.{Taken, Refused}
+use Rattle.units.specs.declared.refusal.Refusal.TheVariants.{Long, Unended, Fields, Form as NoForm}
 use Rattle.units.specs.Limits.{line_top, factor_low, factor_top}
 use Rattle.units.specs.Pick.{pick}
 use Rattle.message.specs.declared.certificate.Certificate.{Certificate}
 use Rattle.message.specs.InRange.{CertificateInRange}
+use Rattle.fields.specs.declared.field.Fault.{Fault}
 use Rattle.fields.specs.declared.field.Field.{Field}
-use Rattle.fields.specs.declared.field.Field.TheVariants.{Value, Form, Range}
 use Rattle.fields.specs.declared.spelling.Spelling.TheVariants.{Factor}
 use Rattle.fields.specs.Certificate.{is_certificate}
 use Rattle.fields.specs.Day.{day_digits, date_fits, day_in, day_at}
 use Rattle.fields.specs.Digits.{fixed}
-use Rattle.fields.specs.Field.{spelled, read_field, read_at}
+use Rattle.fields.specs.Field.{refusal_of, spelled, read_field, read_at}
 use Rattle.fields.specs.Text.{line_feed, until, fields_of, field_at, next_at, tabbed}
 use Rattle.lines.specs.Reading.{ended_once}
 use Rattle.lines.specs.Settings.{bytes_of}
 use Rattle.lines.specs.Settling.{certificate_of, no_one}
 use Rattle.store.specs.declared.name.Named.{Named}
 use Rattle.store.specs.declared.row.Row.{Row}
-use Rattle.store.specs.declared.row.Entry.{Entry}
 
 -- no certificate: its day is no date
 abbrev pub no_row : Row
 no_row = record { serial = no_one; day = 0; certificate = no_one; factor = 0 }
 
+-- what a line is: a row, or why it is none
+abbrev pub Entry : Type 0
+Entry = Result Row Refusal
+
 abbrev pub bad_row : Refusal → Entry
-bad_row why = record { verdict = Refused why; row = no_row }
+bad_row why = Err why
 
 abbrev pub good_row : Certificate → ℕ → Certificate → ℕ → Entry
-good_row serial day certificate factor = record { verdict = Taken; row = record { serial = serial; day = day; certificate = certificate; factor = factor } }
+good_row serial day certificate factor = Ok (record { serial = serial; day = day; certificate = certificate; factor = factor })
 
-abbrev pub after_field : (ℕ → ℕ → Entry) → Field → Entry
-after_field go (Value n next) = go n next
-after_field go Form = bad_row NoForm
-after_field go Range = bad_row NoRange
+abbrev pub after_field : (ℕ → ℕ → Entry) → Result Field Fault → Entry
+after_field go (Ok field) = go field.n field.next
+after_field go (Err why) = bad_row (refusal_of why)
 
 -- FIELD BY FIELD FROM THE LEFT, form before range: names are "1 to 16 bytes as for certificates", the factor is as in K
 unfoldable pub row_in : List (List ℕ) → Entry
@@ -66,20 +67,22 @@ pub record RowInRange (x : Row) : Type 0 where
   pub factor : (factor_low ≤ x.factor) × (x.factor ≤ factor_top)
 
 -- the same from place to place, as the reader goes: a name and where the next field starts, then the other fields
-unfoldable pub name_in : ℕ → List ℕ → Named
-name_in next cs = pick (is_certificate cs) (record { fit = true; next = next; name = certificate_of cs }) (record { fit = false; next = 0; name = no_one })
+unfoldable pub name_in : ℕ → List ℕ → Option Named
+name_in next cs = pick (is_certificate cs) (Some (record { name = certificate_of cs; next = next })) None
 
-abbrev pub name_at : List ℕ → ℕ → Named
+abbrev pub name_at : List ℕ → ℕ → Option Named
 name_at text at = name_in (next_at text at) (field_at text at)
 
-abbrev pub rest_of : List ℕ → Certificate → ℕ → Named → Entry
-rest_of text serial day paper = pick paper.fit (after_field (λ factor next. good_row serial day paper.name factor) (read_at text paper.next Factor factor_low factor_top)) (bad_row NoForm)
+abbrev pub rest_of : List ℕ → Certificate → ℕ → Option Named → Entry
+rest_of text serial day (Some paper) = after_field (λ factor next. good_row serial day paper.name factor) (read_at text paper.next Factor factor_low factor_top)
+rest_of text serial day None = bad_row NoForm
 
 unfoldable pub rest_at : List ℕ → Certificate → ℕ → ℕ → Entry
 rest_at text serial day at = rest_of text serial day (name_at text at)
 
-abbrev pub row_from : List ℕ → Named → Entry
-row_from text serial = pick serial.fit (after_field (rest_at text serial.name) (day_at text serial.next)) (bad_row NoForm)
+abbrev pub row_from : List ℕ → Option Named → Entry
+row_from text (Some serial) = after_field (rest_at text serial.name) (day_at text serial.next)
+row_from text None = bad_row NoForm
 
 unfoldable pub row_at : List ℕ → Entry
 row_at text = row_from text (name_at text 0)

@@ -1,12 +1,10 @@
 -- "the lines from the top": the certificates of an export, or the first line that is bad.
-use Rattle.std.specs.Prelude.{ℕ, ◌+◌, List, [], ◌∷◌, take}
+use Rattle.std.specs.Prelude.{ℕ, ◌+◌, List, [], ◌∷◌, take, Result, Ok, Err}
 use Rattle.units.specs.declared.refusal.Refusal.{Refusal}
-use Rattle.units.specs.declared.refusal.Verdict.{Verdict}
-use Rattle.units.specs.declared.refusal.Verdict.TheVariants.{Taken, Refused}
 use Rattle.fields.specs.Lines.{lines_of}
-use Rattle.store.specs.declared.gather.Gathered.{Gathered}
+use Rattle.store.specs.declared.gather.BadLine.{BadLine}
 use Rattle.store.specs.declared.row.Row.{Row}
-use Rattle.store.specs.Row.{RowInRange, row_of}
+use Rattle.store.specs.Row.{Entry, RowInRange, row_of}
 
 -- "more than 512 lines"
 abbrev pub rows_top : ℕ
@@ -22,26 +20,23 @@ abbrev pub before : Row → Rows → Rows
 before row (rows rs) = rows (row ∷ rs)
 before row (bad why line) = bad why line
 
-abbrev pub onwards : ℕ → Verdict → Row → Rows → Rows
-onwards line Taken row more = before row more
-onwards line (Refused why) row more = bad why line
+abbrev pub onwards : ℕ → Entry → Rows → Rows
+onwards line (Ok row) more = before row more
+onwards line (Err why) more = bad why line
 
 -- lines of which the first has a number
 unfoldable pub rows_from : ℕ → List (List ℕ) → Rows
 rows_from line [] = rows []
-rows_from line (l ∷ ls) = onwards line (row_of l).verdict (row_of l).row (rows_from (line + 1) ls)
+rows_from line (l ∷ ls) = onwards line (row_of l) (rows_from (line + 1) ls)
 
 -- THE CERTIFICATES OF AN EXPORT
 abbrev pub rows_of : List ℕ → Rows
 rows_of export = rows_from 1 (lines_of export)
 
 -- the same as `gather` gives it
-abbrev pub gathered_in : Verdict → ℕ → List Row → Rows
-gathered_in Taken line rs = rows rs
-gathered_in (Refused why) line rs = bad why line
-
-abbrev pub gathered_rows : Gathered → Rows
-gathered_rows g = gathered_in g.verdict g.line (take g.table.n g.table.rows)
+abbrev pub gathered_rows : Result ℕ BadLine → List Row → Rows
+gathered_rows (Ok n) rs = rows (take n rs)
+gathered_rows (Err e) rs = bad e.why e.line
 
 -- a row that is one of them, and that all of them are in range
 pub data In : Row → List Row → Type 0 where

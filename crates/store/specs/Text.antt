@@ -1,19 +1,16 @@
 -- THE PROGRAM `certificates`: from the day, the serials and an export, the bytes that it writes.
-use Rattle.std.specs.Prelude.{ℕ, List, leb, take}
+use Rattle.std.specs.Prelude.{ℕ, List, leb, take, Ok, Err}
 use Rattle.units.specs.declared.refusal.Refusal.TheVariants.{Full}
 use Rattle.units.specs.Pick.{pick}
-use Rattle.lines.specs.declared.write.Written.{Written}
-use Rattle.lines.specs.declared.write.Written.TheVariants.{Done as Wrote, Refused as Unwritten}
+use Rattle.lines.specs.Writing.{Written}
 use Rattle.lines.specs.Writing.{answer_of, buffer_of, refusal_line}
 use Rattle.store.specs.declared.kept.Kept.{Kept}
 use Rattle.store.specs.declared.kept.Told.{Told}
 use Rattle.store.specs.declared.stored.Place.{Place}
 use Rattle.store.specs.declared.stored.Place.TheVariants.{Nowhere}
 use Rattle.store.specs.declared.stored.Serials.{Serials}
-use Rattle.store.specs.declared.stored.Stored.{Stored}
-use Rattle.store.specs.declared.stored.Stored.TheVariants.{Done, Refused}
 use Rattle.store.specs.Rows.{rows_top}
-use Rattle.store.specs.Stored.{Outcome, says, no, outcome_of, answer_in, buffer_in}
+use Rattle.store.specs.Stored.{Stored, Outcome, says, no, outcome_of, answer_in, buffer_in}
 
 -- THE OUTPUT: the K lines, or one line X; and the place, for standard error
 abbrev pub text_in : Outcome → List ℕ
@@ -36,16 +33,16 @@ kept_outcome k held day s = pick (leb k.count.lines rows_top) (outcome_of (take 
 
 -- an answer told in bytes: the K lines are there, the line X is put
 abbrev pub wrote_len : Written → ℕ
-wrote_len (Wrote len) = len
-wrote_len (Unwritten why) = 0
+wrote_len (Ok len) = len
+wrote_len (Err why) = 0
 
 abbrev pub tell_in : Stored → List ℕ → Told
-tell_in (Done len) buf = record { len = len; place = Nowhere }
-tell_in (Refused why place) buf = record { len = wrote_len (answer_of (refusal_line why) buf); place = place }
+tell_in (Ok len) buf = record { len = len; place = Nowhere }
+tell_in (Err e) buf = record { len = wrote_len (answer_of (refusal_line e.why) buf); place = e.place }
 
 abbrev pub tell_buffer : Stored → List ℕ → List ℕ
-tell_buffer (Done len) buf = buf
-tell_buffer (Refused why place) buf = buffer_of (refusal_line why) buf
+tell_buffer (Ok len) buf = buf
+tell_buffer (Err e) buf = buffer_of (refusal_line e.why) buf
 
 unfoldable pub told_of : Kept → List ℕ → List ℕ → Serials → List ℕ → Told
 told_of k held day s buf = tell_in (answer_in (kept_outcome k held day s) buf) (buffer_in (kept_outcome k held day s) buf)

@@ -13,6 +13,7 @@ pub struct Count {
 }
 
 // One line more, and no more than is needed to know that there are too many.
+#[tactic(auto, unfolding(units::specs::Pick::pick))]
 fn more_lines(lines: usize) -> usize
     ensures { result ≡ more_lines lines }
 {
@@ -36,6 +37,7 @@ impl Count {
         self.lines
     }
 
+    #[tactic(auto, unfolding(units::specs::Pick::pick))]
     fn byte(self, b: u8) -> Count
         ensures { result ≡ count_byte self b }
     {
@@ -54,12 +56,6 @@ impl Count {
     pub fn on(self, bytes: &[u8]) -> Count
         ensures { result ≡ counted_on self bytes.now }
     {
-        let mut count = self;
-        let mut i: usize = 0;
-        while i < bytes.len() {
-            count = count.byte(bytes[i]);
-            i += 1;
-        }
-        count
+        bytes.iter().fold(self, |count, b| count.byte(*b))
     }
 }

@@ -1,28 +1,20 @@
-// The lines of an export, gathered into a table by value.
-ghost use Rattle.std.specs.Prelude.{◌≡◌, ◌+◌, ◌≤◌, min, drop, length};
+// The lines of an export, gathered into rows.
+ghost use Rattle.std.specs.Prelude.{◌≡◌, ◌+◌, ◌≤◌, min, drop, length, IfOk};
 ghost use Rattle.fields.specs.Lines.{feed_at, lines_of};
 ghost use Rattle.store.specs.Rows.{gathered_rows, rows_of};
 
-use crate::row::{Row, no_row, row_of};
+use crate::row::{Row, row_of};
 use fields::scan;
-use units::Verdict;
+use units::Refusal;
 
 // The certificates that an export may have, one a line.
 pub const ROWS: usize = 512;
 
-// The first n rows count.
+// Why a line is refused, and its number from 1.
 #[derive(Clone, Copy)]
-pub struct Table {
-    pub n: usize,
-    pub rows: [Row; ROWS],
-}
-
-// All lines as rows, or why one was refused, and its number from 1.
-#[derive(Clone, Copy)]
-pub struct Gathered {
-    pub verdict: Verdict,
+pub struct BadLine {
+    pub why: Refusal,
     pub line: u32,
-    pub table: Table,
 }
 
 // The place after the line that starts at a place.
@@ -35,33 +27,27 @@ fn line_end(export: &[u8], at: usize) -> usize
     if end < export.len() { end + 1 } else { end }
 }
 
-// All lines from the top, up to the first that is bad.
-pub(crate) fn gather(export: &[u8]) -> Gathered
-    requires { length (lines_of export.now) ≤ 512 }
-    ensures { (gathered_rows result ≡ rows_of export.now) × (result.table.n ≤ 512) }
+// All lines from the top, up to the first that is bad, put into 512 places; the answer is how many.
+pub(crate) fn gather(export: &[u8], rows: &mut [Row]) -> Result<usize, BadLine>
+    requires { (length (lines_of export.now) ≤ 512) × (length rows.old ≡ 512) }
+    ensures { (gathered_rows result rows.new ≡ rows_of export.now) × IfOk result (λ n. n ≤ 512) }
 {
-    let mut rows = [no_row(); ROWS];
     let mut n: usize = 0;
     let mut at: usize = 0;
+    // A while: it goes on by a line, whose bytes vary.
     while at < export.len() {
         let end = line_end(export, at);
-        let entry = row_of(&export[at..end]);
-        let verdict = entry.verdict;
-        if let Verdict::Refused(why) = verdict {
-            return Gathered {
-                verdict: Verdict::Refused(why),
-                line: (n + 1) as u32,
-                table: Table { n, rows },
-            };
+        match row_of(&export[at..end]) {
+            Ok(row) => rows[n] = row,
+            Err(why) => {
+                return Err(BadLine {
+                    why,
+                    line: (n + 1) as u32,
+                });
+            }
         }
-        let row = entry.row;
-        rows[n] = row;
         n += 1;
         at = end;
     }
-    Gathered {
-        verdict: Verdict::Taken,
-        line: 0,
-        table: Table { n, rows },
-    }
+    Ok(n)
 }

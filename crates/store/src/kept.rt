@@ -6,10 +6,10 @@ ghost use Rattle.store.specs.Text.{kept_outcome, tell_buffer, tell_in, told_buff
 
 use crate::count::Count;
 use crate::gather::ROWS;
-use crate::stored::{Place, Serials, Stored};
+use crate::stored::{Place, Refused, Serials};
 use crate::write::write_runs;
 use fields::put_part;
-use lines::write::{Written, write_refusal};
+use lines::write::write_refusal;
 use units::Refusal;
 use units::limits::LINE;
 
@@ -34,22 +34,21 @@ pub struct Told {
 fn kept_room(len: usize, places: usize) -> usize
     ensures { result ≡ kept_room len places }
 {
-    let top = if places < KEPT { places } else { KEPT };
-    if top < len { 0 } else { top - len }
+    places.min(KEPT).saturating_sub(len)
 }
 
 // The line X of a refusal in place of K lines.
-fn tell(answer: Stored, buf: &mut [u8]) -> Told
+fn tell(answer: Result<usize, Refused>, buf: &mut [u8]) -> Told
     ensures { (result ≡ tell_in answer buf.old) × (buf.new ≡ tell_buffer answer buf.old) }
 {
     match answer {
-        Stored::Done { len } => Told {
+        Ok(len) => Told {
             len,
             place: Place::Nowhere,
         },
-        Stored::Refused { why, place } => match write_refusal(why, buf) {
-            Written::Done { len } => Told { len, place },
-            Written::Refused(_) => Told { len: 0, place },
+        Err(Refused { why, place }) => match write_refusal(why, buf) {
+            Ok(len) => Told { len, place },
+            Err(_) => Told { len: 0, place },
         },
     }
 }
@@ -68,37 +67,34 @@ impl Kept {
     pub fn on(self, block: &[u8], buf: &mut [u8]) -> Kept
         ensures { (result ≡ kept_on self block.now buf.old) × (buf.new ≡ kept_buffer self block.now buf.old) }
     {
-        let count = self.count;
-        let room = kept_room(self.len, buf.len());
-        let len = if block.len() < room {
-            put_part(buf, self.len, block)
-        } else {
-            put_part(buf, self.len, &block[..room])
-        };
+        let room = kept_room(self.len, buf.len()).min(block.len());
         Kept {
-            len,
-            count: count.on(block),
+            len: put_part(buf, self.len, &block[..room]),
+            count: self.count.on(block),
         }
     }
 
     // The store's answer from what is kept.
-    fn write(self, held: &[u8], day: &[u8], serials: Serials, buf: &mut [u8]) -> Stored
+    fn write(
+        self,
+        held: &[u8],
+        day: &[u8],
+        serials: Serials,
+        buf: &mut [u8],
+    ) -> Result<usize, Refused>
         ensures { (result ≡ answer_in (kept_outcome self held.now day.now serials) buf.old) × (buf.new ≡ buffer_in (kept_outcome self held.now day.now serials) buf.old) }
     {
-        let count = self.count;
-        if ROWS < count.lines() {
-            return Stored::Refused {
+        if ROWS < self.count.lines() {
+            return Err(Refused {
                 why: Refusal::Full,
                 place: Place::Nowhere,
-            };
+            });
         }
-        if held.len() < self.len {
-            return write_runs(held, day, serials, buf);
-        }
-        write_runs(&held[..self.len], day, serials, buf)
+        write_runs(&held[..self.len.min(held.len())], day, serials, buf)
     }
 
     // Writes the K lines, or the line X, of what is kept.
+    #[tactic(auto, unfolding(crate::specs::Text::told_of, crate::specs::Text::told_buffer))]
     pub fn answer(self, held: &[u8], day: &[u8], serials: Serials, buf: &mut [u8]) -> Told
         ensures { (result ≡ told_of self held.now day.now serials buf.old) × (buf.new ≡ told_buffer self held.now day.now serials buf.old) }
     {

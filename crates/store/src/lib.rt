@@ -15,5 +15,5 @@ pub mod write;
 
 pub use kept::{Kept, Told};
 pub use name::name_of;
-pub use stored::{Place, Serials, Stored};
+pub use stored::{Place, Refused, Serials};
 pub use write::write_runs;

@@ -7,12 +7,11 @@ use fields::certificate_end;
 use message::Certificate;
 use units::limits::CERTIFICATE;
 
-// The name that a field is, and where the next field starts; not fit where it is none.
+// The name that a field is, and where the next field starts.
 #[derive(Clone, Copy)]
 pub struct Named {
-    pub fit: bool,
-    pub next: usize,
     pub name: Certificate,
+    pub next: usize,
 }
 
 pub(crate) fn no_name() -> Certificate
@@ -29,31 +28,21 @@ pub fn name_of(text: &[u8]) -> Certificate
     ensures { result ≡ certificate_of text.now }
 {
     let len = text.len();
+    let n = len.min(CERTIFICATE);
     let mut bytes = [0u8; 16];
-    let mut i: usize = 0;
-    while i < CERTIFICATE {
-        if i < len {
-            bytes[i] = text[i];
-        }
-        i += 1;
-    }
+    bytes[..n].copy_from_slice(&text[..n]);
     Certificate { len, bytes }
 }
 
-// The name at a place.
-pub(crate) fn name_at(text: &[u8], at: usize) -> Named
+// The name at a place, where the field there is one.
+pub(crate) fn name_at(text: &[u8], at: usize) -> Option<Named>
     ensures { result ≡ name_at text.now at }
 {
     match certificate_end(text, at) {
-        fields::Certificate::At { end } => Named {
-            fit: true,
-            next: end + 1,
+        Some(end) => Some(Named {
             name: name_of(&text[at..end]),
-        },
-        fields::Certificate::Form => Named {
-            fit: false,
-            next: 0,
-            name: no_name(),
-        },
+            next: end + 1,
+        }),
+        None => None,
     }
 }

@@ -1,13 +1,13 @@
 // The newest certificate of a meter.
-ghost use Rattle.std.specs.Prelude.{◌≡◌, ◌≤◌, take};
+ghost use Rattle.std.specs.Prelude.{◌≡◌};
 ghost use Rattle.store.specs.Newest.{better, newest};
 
-use crate::gather::Table;
 use crate::repeated::same_name;
 use crate::row::{Row, no_row};
 use message::Certificate;
 
 // A row where it is in force and later than the best so far, else the best.
+#[tactic(auto, unfolding(units::specs::Pick::pick))]
 fn better_of(best: Row, row: Row, serial: Certificate, day: u64) -> Row
     ensures { result ≡ better serial day best row }
 {
@@ -19,16 +19,9 @@ fn better_of(best: Row, row: Row, serial: Certificate, day: u64) -> Row
 }
 
 // A meter's newest certificate not after a day; no row where it has none.
-pub(crate) fn newest_of(table: Table, serial: Certificate, day: u64) -> Row
-    requires { table.n ≤ 512 }
-    ensures { result ≡ newest serial day (take table.n table.rows) }
+pub(crate) fn newest_of(rows: &[Row], serial: Certificate, day: u64) -> Row
+    ensures { result ≡ newest serial day rows.now }
 {
-    let n = table.n;
-    let mut best = no_row();
-    let mut i: usize = 0;
-    while i < n {
-        best = better_of(best, table.rows[i], serial, day);
-        i += 1;
-    }
-    best
+    rows.iter()
+        .fold(no_row(), |best, row| better_of(best, *row, serial, day))
 }

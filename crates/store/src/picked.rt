@@ -1,106 +1,62 @@
 // The rows found for the runs, and settings made of them.
-ghost use Rattle.std.specs.Prelude.{◌≡◌, ℕ, ◌<◌, ◌≤◌, get_or, take};
-ghost use Rattle.store.specs.First.{first_of};
+ghost use Rattle.std.specs.Prelude.{◌≡◌, ℕ, ◌<◌, ◌≤◌, get_or, length};
+ghost use Rattle.store.specs.First.{first_of, place_below};
 ghost use Rattle.store.specs.Row.{no_row};
-ghost use Rattle.store.specs.Runs.{certificate_for, factor_for, found, is_blank, settings_from, weight_for};
+ghost use Rattle.store.specs.Runs.{factor_at, found, is_blank, settings_from};
 
-use crate::gather::Table;
-use crate::name::no_name;
 use crate::newest::newest_of;
 use crate::row::{Row, no_row};
 use crate::stored::Serials;
-use message::{Certificate, Settings};
-use units::limits::RUNS;
+use message::Settings;
 use units::{Group, Numbers};
 
-// Row i is run i's, for the m runs.
-#[derive(Clone, Copy)]
-pub struct Picked {
-    pub m: usize,
-    pub rows: [Row; 16],
-}
-
 // Each run's newest certificate not after a day.
-pub(crate) fn pick_rows(table: Table, serials: Serials, day: u64) -> Picked
-    requires { (table.n ≤ 512) × (serials.m ≤ 16) }
-    ensures { (result.m ≡ serials.m) × ((i : ℕ) → i < serials.m → get_or result.rows i no_row ≡ found serials day (take table.n table.rows) i) }
+pub(crate) fn pick_rows(rows: &[Row], serials: Serials, day: u64) -> [Row; 16]
+    requires { serials.m ≤ 16 }
+    ensures { (i : ℕ) → i < serials.m → get_or result i no_row ≡ found serials day rows.now i }
 {
-    let m = serials.m;
-    let mut rows = [no_row(); 16];
-    let mut i: usize = 0;
-    while i < m {
-        let serial = serials.each[i];
-        rows[i] = newest_of(table, serial, day);
-        i += 1;
+    let mut picked = [no_row(); 16];
+    for i in 0..serials.m {
+        picked[i] = newest_of(rows, serials.each[i], day);
     }
-    Picked { m, rows }
+    picked
 }
 
-// The first run that has no certificate in force; m where all have one.
-pub(crate) fn lacking(picked: Picked) -> usize
-    requires { picked.m ≤ 16 }
-    ensures { result ≡ first_of (λ i. is_blank (get_or picked.rows i no_row)) picked.m }
+// The first run that has no certificate in force.
+pub(crate) fn lacking(runs: &[Row]) -> Option<usize>
+    ensures { result ≡ place_below (first_of (λ i. is_blank (get_or runs.now i no_row)) (length runs.now)) (length runs.now) }
 {
-    let m = picked.m;
-    let mut i: usize = 0;
-    while i < m {
-        if picked.rows[i].day == 0 {
-            return i;
-        }
-        i += 1;
-    }
-    i
+    runs.iter().position(|row| row.day == 0)
 }
 
-fn factor_for(run: bool, factor: u64) -> u32
-    ensures { result ≡ factor_for run factor }
+// Run i's row; no row at a place that is no run.
+fn run_at(runs: &[Row], i: usize) -> Row
+    ensures { result ≡ get_or runs.now i no_row }
 {
-    if run {
-        return (factor % 4294967296) as u32;
-    }
-    0
+    runs.get(i).copied().unwrap_or(no_row())
 }
 
-fn weight_for(run: bool) -> u32
-    ensures { result ≡ weight_for run }
+#[tactic(auto, using(crate::proofs::Fills::factor_there))]
+fn factor_at(runs: &[Row], i: usize) -> u32
+    ensures { result ≡ factor_at (length runs.now) (λ j. get_or runs.now j no_row) i }
 {
-    if run { 1 } else { 0 }
-}
-
-fn certificate_for(run: bool, certificate: Certificate) -> Certificate
-    ensures { result ≡ certificate_for run certificate }
-{
-    if run {
-        return certificate;
-    }
-    no_name()
+    (run_at(runs, i).factor % 4294967296) as u32
 }
 
 // Settings of one controller with the least numbers, and the runs of these rows.
-pub(crate) fn settings_of(picked: Picked) -> Settings
-    ensures { result ≡ settings_from 1 picked.m 1 1 1 (λ i. get_or picked.rows i no_row) }
+pub(crate) fn settings_of(runs: &[Row]) -> Settings
+    ensures { result ≡ settings_from 1 (length runs.now) 1 1 1 (λ i. get_or runs.now i no_row) }
 {
-    let m = picked.m;
-    let mut factors = [0u32; 16];
-    let mut weights = [0u32; 16];
-    let mut certificates = [no_name(); 16];
-    let mut i: usize = 0;
-    while i < RUNS {
-        let row = picked.rows[i];
-        factors[i] = factor_for(i < m, row.factor);
-        weights[i] = weight_for(i < m);
-        certificates[i] = certificate_for(i < m, row.certificate);
-        i += 1;
-    }
+    let m = runs.len();
     Settings {
         numbers: Numbers {
-            group: Group { g: 1, m: m },
+            group: Group { g: 1, m },
             q: 1,
             r: 1,
             p: 1,
-            factors,
-            weights,
+            factors: std::array::from_fn(|i| factor_at(runs, i)),
+            weights: std::array::from_fn(|i| u32::from(i < m)),
         },
-        certificates,
+        certificates: std::array::from_fn(|i| run_at(runs, i).certificate),
     }
 }

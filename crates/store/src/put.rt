@@ -4,10 +4,9 @@ ghost use Rattle.message.specs.Settings.{settings_fit};
 ghost use Rattle.store.specs.Runs.{run_at, runs_text};
 ghost use Rattle.store.specs.Stored.{answer_in, buffer_in, says};
 
-use crate::stored::{Place, Stored};
+use crate::stored::{Place, Refused};
 use fields::put_part;
 use lines::setting::write_setting;
-use lines::write::Written;
 use message::Settings;
 use units::Refusal;
 
@@ -19,8 +18,8 @@ fn put_one(settings: Settings, i: usize, out: &mut [u8]) -> usize
     ensures { (result ≡ length (run_at settings i)) × (out.new ≡ run_at settings i ++ drop (length (run_at settings i)) out.old) }
 {
     match write_setting(settings, (i + 3) as u32, out) {
-        Written::Done { len } => len,
-        Written::Refused(_) => 0,
+        Ok(len) => len,
+        Err(_) => 0,
     }
 }
 
@@ -31,27 +30,25 @@ fn put_runs(settings: Settings, out: &mut [u8]) -> usize
 {
     let m = settings.numbers.group.m;
     let mut at: usize = 0;
-    let mut i: usize = 0;
-    while i < m {
+    for i in 0..m {
         at += put_one(settings, i, &mut out[at..]);
-        i += 1;
     }
     at
 }
 
 // Writes the K lines of settings in range, or 16.
-pub(crate) fn write_lines(settings: Settings, buf: &mut [u8]) -> Stored
+pub(crate) fn write_lines(settings: Settings, buf: &mut [u8]) -> Result<usize, Refused>
     requires { settings_fit settings ≡ true }
     ensures { (result ≡ answer_in (says (runs_text settings settings.numbers.group.m)) buf.old) × (buf.new ≡ buffer_in (says (runs_text settings settings.numbers.group.m)) buf.old) }
 {
     let mut own = [0u8; RUNS_TEXT];
     let len = put_runs(settings, &mut own);
     if buf.len() < len {
-        return Stored::Refused {
+        return Err(Refused {
             why: Refusal::Room,
             place: Place::Nowhere,
-        };
+        });
     }
     put_part(buf, 0, &own[..len]);
-    Stored::Done { len }
+    Ok(len)
 }

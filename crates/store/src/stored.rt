@@ -1,12 +1,12 @@
 // What the store is asked, and what it answers.
 ghost use Rattle.std.specs.Prelude.{◌≡◌, ◌≤◌};
-ghost use Rattle.store.specs.First.{first_of};
+ghost use Rattle.store.specs.First.{first_of, place_below};
 ghost use Rattle.store.specs.Stored.{bad_serial, stored_number};
 
 use message::Certificate;
 use units::Refusal;
 
-// The serials of the meters in run order; places at m and above are not looked at.
+// The serials of the meters in run order; places at m and above are not looked at. m may be above 16, which is refused; memory is fixed, so there is no Vec.
 #[derive(Clone, Copy)]
 pub struct Serials {
     pub m: usize,
@@ -23,37 +23,29 @@ pub enum Place {
     Run { run: u32 },
 }
 
-// How many bytes the K lines have, or why there are none.
+// Why there are no K lines.
 #[derive(Clone, Copy)]
-pub enum Stored {
-    Done { len: usize },
-    Refused { why: Refusal, place: Place },
+pub struct Refused {
+    pub why: Refusal,
+    pub place: Place,
 }
 
-impl Stored {
-    pub fn number(self) -> u32
-        ensures { result ≡ stored_number self }
-    {
-        match self {
-            Stored::Done { len: _ } => 0,
-            Stored::Refused { why, place: _ } => why.number(),
-        }
-    }
-}
-
-// The first serial that is none; m where all are.
-pub(crate) fn bad_serial(serials: Serials) -> usize
-    requires { serials.m ≤ 16 }
-    ensures { result ≡ first_of (bad_serial serials) serials.m }
+// The number of an answer, which is how many bytes the K lines have, or why there are none; 0 where there are.
+pub fn number(answer: Result<usize, Refused>) -> u32
+    ensures { result ≡ stored_number answer }
 {
-    let m = serials.m;
-    let mut i: usize = 0;
-    while i < m {
-        let serial = serials.each[i];
-        if !serial.in_range(true) {
-            return i;
-        }
-        i += 1;
+    match answer {
+        Ok(_) => 0,
+        Err(refused) => refused.why.number(),
     }
-    i
+}
+
+// The first serial that is none.
+pub(crate) fn bad_serial(serials: Serials) -> Option<usize>
+    requires { serials.m ≤ 16 }
+    ensures { result ≡ place_below (first_of (bad_serial serials) serials.m) serials.m }
+{
+    serials.each[..serials.m]
+        .iter()
+        .position(|serial| !serial.in_range(true))
 }

@@ -1,100 +1,126 @@
 // THE STORE'S ANSWER: the checks in their order, then the K lines.
-ghost use Rattle.std.specs.Prelude.{◌≡◌, true, ◌≤◌, take};
-ghost use Rattle.units.specs.Limits.{runs_top};
-ghost use Rattle.units.specs.Within.{within};
+ghost use Rattle.std.specs.Prelude.{◌≡◌, ◌≤◌, length};
 ghost use Rattle.fields.specs.Day.{day_in};
-ghost use Rattle.store.specs.Rows.{AllInRange};
-ghost use Rattle.store.specs.Stored.{answer_in, apart, buffer_in, in_force, named, on_day, stored};
-ghost use Rattle.store.specs.declared.stored.Stored.{Stored};
+ghost use Rattle.store.specs.Stored.{date_judged, days_judged, lines_judged, serials_judged, settings_judged, stored};
 
 use crate::count::Count;
-use crate::gather::{ROWS, Table, gather};
+use crate::gather::{BadLine, ROWS, gather};
 use crate::picked::{lacking, pick_rows, settings_of};
 use crate::put::write_lines;
 use crate::repeated::repeated_at;
-use crate::stored::{Place, Serials, Stored, bad_serial};
-use fields::{Field, whole_day};
+use crate::row::{Row, no_row};
+use crate::stored::{Place, Refused, Serials, bad_serial};
+use fields::whole_day;
+use message::Settings;
+use units::Refusal;
 use units::limits::RUNS;
-use units::{Refusal, Verdict};
 
-fn refused(why: Refusal, place: Place) -> Stored
-    ensures { result ≡ Stored.Refused why place }
-{
-    Stored::Refused { why, place }
+impl From<BadLine> for Refused {
+    ghost use Rattle.store.specs.declared.stored.Place.TheVariants.{Line};
+
+    ghost from_gives = { λ bad r. r ≡ record { why = bad.why; place = Line bad.line } };
+
+    fn from(bad: BadLine) -> Refused {
+        Refused {
+            why: bad.why,
+            place: Place::Line { line: bad.line },
+        }
+    }
 }
 
-// 18 where a run has no certificate in force, else the K lines.
-fn write_found(table: Table, serials: Serials, day: u64, buf: &mut [u8]) -> Stored
-    requires { (table.n ≤ 512) × AllInRange (take table.n table.rows) × (within 1 runs_top serials.m ≡ true) }
-    ensures { (result ≡ answer_in (in_force serials day (take table.n table.rows)) buf.old) × (buf.new ≡ buffer_in (in_force serials day (take table.n table.rows)) buf.old) }
+// 19 for more than 512 lines.
+fn check_lines(export: &[u8]) -> Result<(), Refused>
+    ensures { result ≡ lines_judged export.now }
 {
-    let m = serials.m;
-    let picked = pick_rows(table, serials, day);
-    let run = lacking(picked);
-    if run < m {
-        return refused(Refusal::NoneInForce, Place::Run { run: run as u32 });
+    let count = Count::start().on(export);
+    if ROWS < count.lines() {
+        return Err(Refused {
+            why: Refusal::Full,
+            place: Place::Nowhere,
+        });
     }
-    write_lines(settings_of(picked), buf)
-}
-
-// 17 where two certificates of any meter share a day.
-fn write_apart(table: Table, serials: Serials, day: u64, buf: &mut [u8]) -> Stored
-    requires { (table.n ≤ 512) × AllInRange (take table.n table.rows) × (within 1 runs_top serials.m ≡ true) }
-    ensures { (result ≡ answer_in (apart serials day (take table.n table.rows)) buf.old) × (buf.new ≡ buffer_in (apart serials day (take table.n table.rows)) buf.old) }
-{
-    let row = repeated_at(table);
-    if row < table.n {
-        return refused(
-            Refusal::SameDay,
-            Place::Line {
-                line: (row + 1) as u32,
-            },
-        );
-    }
-    write_found(table, serials, day, buf)
-}
-
-// 6 for the number of serials, then 5 for the first that is none.
-fn write_named(table: Table, serials: Serials, day: u64, buf: &mut [u8]) -> Stored
-    requires { (table.n ≤ 512) × AllInRange (take table.n table.rows) }
-    ensures { (result ≡ answer_in (named serials day (take table.n table.rows)) buf.old) × (buf.new ≡ buffer_in (named serials day (take table.n table.rows)) buf.old) }
-{
-    let m = serials.m;
-    if (m < 1) | (RUNS < m) {
-        return refused(Refusal::Range, Place::Count);
-    }
-    let run = bad_serial(serials);
-    if run < m {
-        return refused(Refusal::Form, Place::Run { run: run as u32 });
-    }
-    write_apart(table, serials, day, buf)
+    Ok(())
 }
 
 // 5 or 6 for the given day.
-fn write_on(table: Table, day: &[u8], serials: Serials, buf: &mut [u8]) -> Stored
-    requires { (table.n ≤ 512) × AllInRange (take table.n table.rows) }
-    ensures { (result ≡ answer_in (on_day serials (take table.n table.rows) (day_in 0 day.now)) buf.old) × (buf.new ≡ buffer_in (on_day serials (take table.n table.rows) (day_in 0 day.now)) buf.old) }
+fn date_of(day: &[u8]) -> Result<u64, Refused>
+    ensures { result ≡ date_judged (day_in 0 day.now) }
 {
     match whole_day(day) {
-        Field::Value { n, next: _ } => write_named(table, serials, n, buf),
-        Field::Form => refused(Refusal::Form, Place::Day),
-        Field::Range => refused(Refusal::Range, Place::Day),
+        Ok(given) => Ok(given.n),
+        Err(why) => Err(Refused {
+            why: Refusal::from(why),
+            place: Place::Day,
+        }),
+    }
+}
+
+// 6 for the number of serials, then 5 for the first that is none.
+fn check_serials(serials: Serials) -> Result<(), Refused>
+    ensures { result ≡ serials_judged serials }
+{
+    if serials.m < 1 || RUNS < serials.m {
+        return Err(Refused {
+            why: Refusal::Range,
+            place: Place::Count,
+        });
+    }
+    match bad_serial(serials) {
+        Some(run) => Err(Refused {
+            why: Refusal::Form,
+            place: Place::Run { run: run as u32 },
+        }),
+        None => Ok(()),
+    }
+}
+
+// 17 where two certificates of any meter share a day.
+fn check_days(rows: &[Row]) -> Result<(), Refused>
+    requires { length rows.now ≤ 512 }
+    ensures { result ≡ days_judged rows.now }
+{
+    match repeated_at(rows) {
+        Some(row) => Err(Refused {
+            why: Refusal::SameDay,
+            place: Place::Line {
+                line: (row + 1) as u32,
+            },
+        }),
+        None => Ok(()),
+    }
+}
+
+// 18 where a run has no certificate in force, else settings of all runs' newest.
+fn settings_in_force(rows: &[Row], serials: Serials, day: u64) -> Result<Settings, Refused>
+    requires { serials.m ≤ 16 }
+    ensures { result ≡ settings_judged serials day rows.now }
+{
+    let picked = pick_rows(rows, serials, day);
+    let runs = &picked[..serials.m];
+    match lacking(runs) {
+        Some(run) => Err(Refused {
+            why: Refusal::NoneInForce,
+            place: Place::Run { run: run as u32 },
+        }),
+        None => Ok(settings_of(runs)),
     }
 }
 
 // The K lines of each run's newest certificate not after a day, from an export of the store: 19, the lines' own refusals, then the others.
-pub fn write_runs(export: &[u8], day: &[u8], serials: Serials, buf: &mut [u8]) -> Stored
+pub fn write_runs(
+    export: &[u8],
+    day: &[u8],
+    serials: Serials,
+    buf: &mut [u8],
+) -> Result<usize, Refused>
     ensures { (result ≡ (stored export.now day.now serials buf.old).0) × (buf.new ≡ (stored export.now day.now serials buf.old).1) }
 {
-    let count = Count::start().on(export);
-    if ROWS < count.lines() {
-        return refused(Refusal::Full, Place::Nowhere);
-    }
-    let gathered = gather(export);
-    let line = gathered.line;
-    let verdict = gathered.verdict;
-    match verdict {
-        Verdict::Refused(why) => refused(why, Place::Line { line }),
-        Verdict::Taken => write_on(gathered.table, day, serials, buf),
-    }
+    check_lines(export)?;
+    let mut rows = [no_row(); ROWS];
+    let n = gather(export, &mut rows)?;
+    let rows = &rows[..n];
+    let date = date_of(day)?;
+    check_serials(serials)?;
+    check_days(rows)?;
+    write_lines(settings_in_force(rows, serials, date)?, buf)
 }

@@ -5,11 +5,12 @@
 
 ghost use Rattle.std.specs.Prelude.{◌+◌, ◌≤◌, ◌<◌, IfOk, length};
 
-use fields::{Digits, read_digits};
+use fields::read_digits;
 use message::Certificate;
 use std::io;
 use std::io::Read;
-use store::{Place, Serials, Stored, name_of, write_runs};
+use store::stored::number as number_of;
+use store::{Place, Refused, Serials, name_of, write_runs};
 
 // The bytes of a case's first line, of a serial, and of all sixteen.
 const HEAD: usize = 16;
@@ -31,8 +32,8 @@ fn number(text: &[u8], at: usize, n: usize) -> usize
     ensures { result < 100000 }
 {
     match read_digits(text, at, n) {
-        Digits::Said { n } => (n % 100000) as usize,
-        Digits::Wrong => 0,
+        Some(n) => (n % 100000) as usize,
+        None => 0,
     }
 }
 
@@ -50,13 +51,10 @@ fn serial(text: &[u8], at: usize) -> Certificate
 fn serials(text: &[u8], at: usize, m: usize) -> Serials
     requires { at + 288 ≤ length text.now }
 {
-    let mut each = [name_of(b""); 16];
-    let mut i: usize = 0;
-    while i < 16 {
-        each[i] = serial(text, at + SERIAL * i);
-        i += 1;
+    Serials {
+        m,
+        each: std::array::from_fn(|i| serial(text, at + SERIAL * i)),
     }
-    Serials { m, each }
 }
 
 fn tell_place(rt: &impl Print, place: Place) -> io::Result<()> {
@@ -64,28 +62,28 @@ fn tell_place(rt: &impl Print, place: Place) -> io::Result<()> {
         Place::Nowhere => say(rt, b"nowhere"),
         Place::Line { line } => {
             say(rt, b"line ")?;
-            tell(rt, line as u64)
+            tell(rt, u64::from(line))
         }
         Place::Day => say(rt, b"day"),
         Place::Count => say(rt, b"serials"),
         Place::Run { run } => {
             say(rt, b"run ")?;
-            tell(rt, run as u64)
+            tell(rt, u64::from(run))
         }
     }
 }
 
-fn tell_answer(rt: &impl Print, answer: Stored) -> io::Result<()> {
-    tell(rt, answer.number() as u64)?;
+fn tell_answer(rt: &impl Print, answer: Result<usize, Refused>) -> io::Result<()> {
+    tell(rt, u64::from(number_of(answer)))?;
     say(rt, b" ")?;
     match answer {
-        Stored::Done { len } => {
+        Ok(len) => {
             tell(rt, len as u64)?;
             say(rt, b" nowhere")?;
         }
-        Stored::Refused { why: _, place } => {
+        Err(refused) => {
             say(rt, b"0 ")?;
-            tell_place(rt, place)?;
+            tell_place(rt, refused.place)?;
         }
     }
     say(rt, b"\n")
@@ -141,6 +139,7 @@ fn judge_all(rt: &impl Print, text: &[u8]) -> io::Result<()>
     requires { length text.now ≤ 65536 }
 {
     let mut at: usize = 0;
+    // A while: it goes on by a case, whose bytes vary.
     while at < text.len() {
         at = case_at(rt, text, at)?;
     }
@@ -152,6 +151,7 @@ fn read_full(from: &mut impl Read, bytes: &mut [u8]) -> io::Result<usize>
     ensures { IfOk result (λ n. n ≤ length bytes.new) }
 {
     let mut done = 0;
+    // A while: it goes on by as many bytes as a read gives.
     while done < bytes.len() {
         let n = from.read(&mut bytes[done..])?;
         if n == 0 {

@@ -3,8 +3,8 @@ use Prim.Native.Nat.{ℕ, zero, suc, ◌*◌, ◌/◌, ◌%◌, ◌^◌, ◌≤�
 use native.Mathlib.Nat.{div-eq_of_lt, lt_of_lt_of_le, zero-div}
 use mathlib.Core.Bool.{Bool, true, false, not, cond, ◌&&◌, ◌||◌}
 use lib.Bits.{bit_and, bit_or, and_shr, or_shr, and_mod, or_mod, and_le_r, or_add_and, or_lt}
-use lib.Dec.{eqb}
-use borrow.Author.Tests.{eq-eqb, ne_eqb, not-true}
+use lib.Dec.{ltb, eqb}
+use borrow.Author.Tests.{eq-eqb, ne_eqb, not-true, le-ltb}
 use native.Mathlib.Omega.{arith}
 use mathlib.Core.Path.{◌≡◌, refl, sym, ap, ◌∙◌}
 use lib.Pow.{pow_mono}
@@ -27,10 +27,10 @@ pub no_run : (i : ℕ) → in_mask 0 i ≡ false
 no_run i = rw (zero-div (2 ^ i))
 
 -- a mask has no bit at 32 or above
-pub no_bit : (mask i : ℕ) → mask < 2 ^ 32 → 32 ≤ i → false ≡ in_mask mask i
+pub no_bit : (mask i : ℕ) → mask < 2 ^ 32 → 32 ≤ i → ltb i 32 ≡ in_mask mask i
 no_bit mask i h k =
     let z : mask / 2 ^ i ≡ 0 = div-eq_of_lt (lt_of_lt_of_le h (pow_mono {i = 32} {j = i} k)) in
-    sym (ap (λ (n : ℕ). eqb (n % 2) 1) z)
+    le-ltb i 32 k ∙ sym (ap (λ (n : ℕ). eqb (n % 2) 1) z)
 
 -- the code's 1 << m
 pub shifted : (m : ℕ) → m ≤ 16 → (1 * 2 ^ m) % 2 ^ 32 ≡ mask_end m

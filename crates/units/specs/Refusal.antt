@@ -1,9 +1,7 @@
 -- Document 01's table of refusals, 1 to 16, and behind it request 1's three: the number of each, and what 15 carries.
-use Rattle.std.specs.Prelude.{ℕ, Bool, List, [], ◌∷◌}
+use Rattle.std.specs.Prelude.{ℕ, Bool, List, [], ◌∷◌, Result, Ok, Err}
 use Rattle.units.specs.declared.refusal.Refusal.{Refusal}
 use Rattle.units.specs.declared.refusal.Refusal.TheVariants.{Long, Unended, Kind, Fields, Form, Range, Own, Late, Closed, Other, Clash, Undecided, Lacking, Behind, Settings, Room, SameDay, NoneInForce, Full}
-use Rattle.units.specs.declared.refusal.Verdict.{Verdict}
-use Rattle.units.specs.declared.refusal.Verdict.TheVariants.{Taken, Refused}
 use Rattle.units.specs.Limits.{number_top}
 use Rattle.units.specs.Within.{within}
 
@@ -58,7 +56,11 @@ values_of SameDay = []
 values_of NoneInForce = []
 values_of Full = []
 
+-- what an act says of itself: taken, or refused
+abbrev pub Verdict : Type 0
+Verdict = Result (Unit {0}) Refusal
+
 -- no refusal has the number 0
 abbrev pub verdict_number : Verdict → ℕ
-verdict_number Taken = 0
-verdict_number (Refused why) = number_of why
+verdict_number (Ok tt) = 0
+verdict_number (Err why) = number_of why

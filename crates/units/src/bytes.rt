@@ -6,5 +6,5 @@ ghost use Rattle.units.specs.Bytes.{visible};
 pub fn is_visible(b: u8) -> bool
     ensures { result ≡ visible b }
 {
-    (0x21 <= b) & (b <= 0x7e)
+    (0x21..=0x7e).contains(&b)
 }

@@ -5,18 +5,18 @@ ghost use Rattle.units.specs.Labels.{before, correction, floor_fits, issued_stat
 use crate::limits::{LABEL_TOP, ROUND_LOW};
 
 // The label of a round.
-#[derive(Clone, Copy)]
+#[derive(Clone, Copy, PartialEq, Eq, PartialOrd, Ord)]
 pub struct RoundLabel(pub u32);
 
 // The label of a state: that of the round that left it, 0 at a start.
-#[derive(Clone, Copy)]
+#[derive(Clone, Copy, PartialEq, Eq, PartialOrd, Ord)]
 pub struct StateLabel(pub u32);
 
 impl RoundLabel {
     pub fn in_range(self) -> bool
         ensures { result ≡ round_fits self }
     {
-        (ROUND_LOW <= self.0) & (self.0 <= LABEL_TOP)
+        (ROUND_LOW..=LABEL_TOP).contains(&self.0)
     }
 
     // Whether it can be a floor, which may be 0.
@@ -29,24 +29,20 @@ impl RoundLabel {
     pub fn below(self, other: RoundLabel) -> bool
         ensures { result ≡ ltb self.0 other.0 }
     {
-        self.0 < other.0
+        self < other
     }
 
     pub fn same(self, other: RoundLabel) -> bool
         ensures { result ≡ eqb self.0 other.0 }
     {
-        self.0 == other.0
+        self == other
     }
 
     // n, by how many rounds the state lies back; 0 where it does not lie before the round.
     pub fn since(self, state: StateLabel) -> u32
         ensures { result ≡ correction self state }
     {
-        if state.0 < self.0 {
-            self.0 - state.0
-        } else {
-            0
-        }
+        self.0.saturating_sub(state.0)
     }
 
     // The label of the state that this round leaves once it is issued.
@@ -60,11 +56,7 @@ impl RoundLabel {
     pub fn previous(self) -> StateLabel
         ensures { result ≡ just_before self }
     {
-        if 0 < self.0 {
-            StateLabel(self.0 - 1)
-        } else {
-            StateLabel(0)
-        }
+        StateLabel(self.0.saturating_sub(1))
     }
 }
 
@@ -78,13 +70,13 @@ impl StateLabel {
     pub fn below(self, other: StateLabel) -> bool
         ensures { result ≡ ltb self.0 other.0 }
     {
-        self.0 < other.0
+        self < other
     }
 
     pub fn same(self, other: StateLabel) -> bool
         ensures { result ≡ eqb self.0 other.0 }
     {
-        self.0 == other.0
+        self == other
     }
 
     // Whether the state lies before the round.

@@ -8,25 +8,20 @@ use crate::limits::RUNS;
 pub fn mask_end(m: usize) -> u32
     ensures { result ≡ mask_end m }
 {
-    if RUNS <= m {
-        return 65536;
-    }
-    1u32 << m
+    1u32 << m.min(RUNS)
 }
 
 // Whether run i is in the mask.
+#[tactic(auto, using(crate::proofs::Masks::no_bit))]
 pub fn has(mask: u32, i: usize) -> bool
     ensures { result ≡ in_mask mask i }
 {
-    if 32 <= i {
-        return false;
-    }
-    (mask >> i) % 2 == 1
+    i < 32 && (mask >> i) % 2 == 1
 }
 
 // Whether the mask has a bit, and none at m or above.
 pub fn mask_in_range(m: usize, mask: u32) -> bool
     ensures { result ≡ mask_fits m mask }
 {
-    (1 <= mask) & (mask < mask_end(m))
+    (1..mask_end(m)).contains(&mask)
 }

@@ -4,7 +4,7 @@ ghost use Rattle.units.specs.Refusal.{is_number, number_of, verdict_number};
 
 use crate::limits::{NUMBER_LOW, NUMBER_TOP};
 
-#[derive(Clone, Copy)]
+#[derive(Clone, Copy, PartialEq, Eq)]
 pub enum Refusal {
     Long,
     Unended,
@@ -59,23 +59,18 @@ impl Refusal {
 pub fn is_number(n: u32) -> bool
     ensures { result ≡ is_number n }
 {
-    (NUMBER_LOW <= n) & (n <= NUMBER_TOP)
+    (NUMBER_LOW..=NUMBER_TOP).contains(&n)
 }
 
 // What an act says of itself: taken, or refused.
-#[derive(Clone, Copy)]
-pub enum Verdict {
-    Taken,
-    Refused(Refusal),
-}
+pub type Verdict = Result<(), Refusal>;
 
-impl Verdict {
-    pub fn number(self) -> u32
-        ensures { result ≡ verdict_number self }
-    {
-        match self {
-            Verdict::Taken => 0,
-            Verdict::Refused(why) => why.number(),
-        }
+// The number of a verdict, 0 where it is taken.
+pub fn verdict_number(verdict: Verdict) -> u32
+    ensures { result ≡ verdict_number verdict }
+{
+    match verdict {
+        Ok(()) => 0,
+        Err(why) => why.number(),
     }
 }

@@ -9,17 +9,18 @@ use crate::limits::{
 };
 
 // g controllers and m runs.
-#[derive(Clone, Copy)]
+#[derive(Clone, Copy, PartialEq, Eq)]
 pub struct Group {
     pub g: usize,
     pub m: usize,
 }
 
 impl Group {
+    #[tactic(auto, unfolding(crate::specs::Settings::group_fits))]
     pub fn in_range(self) -> bool
         ensures { result ≡ group_fits self }
     {
-        (1 <= self.g) & (self.g <= CONTROLLERS) & ((1 <= self.m) & (self.m <= RUNS))
+        (1..=CONTROLLERS).contains(&self.g) & (1..=RUNS).contains(&self.m)
     }
 }
 
@@ -38,7 +39,7 @@ pub struct Numbers {
 fn is_within(low: u32, top: u32, n: u32) -> bool
     ensures { result ≡ within low top n }
 {
-    (low <= n) & (n <= top)
+    (low..=top).contains(&n)
 }
 
 // Whether a place holds a run's factor and weight, or nothing where it is no run.
@@ -57,15 +58,11 @@ impl Numbers {
         ensures { result ≡ runs_fit self }
     {
         let m = self.group.m;
-        let mut fit = true;
-        let mut i = 0usize;
-        while i < RUNS {
-            fit = fit & place_in_range(i < m, self.factors[i], self.weights[i]);
-            i += 1;
-        }
-        fit
+        let both = self.factors.iter().zip(&self.weights);
+        both.enumerate().all(|(i, (factor, weight))| place_in_range(i < m, *factor, *weight))
     }
 
+    #[tactic(auto, unfolding(crate::specs::Settings::numbers_fit))]
     pub fn in_range(self) -> bool
         ensures { result ≡ numbers_fit self }
     {

@@ -3,77 +3,51 @@
 
 use std::io;
 use units::{Group, RoundLabel, StateLabel};
-use vote::{Ballot, Decision, Digest, Poll, Seat, Votes};
+use vote::{Decision, Digest, Poll, Seat, Votes};
 
 // A missing vote.
 fn none() -> Seat {
-    Seat {
-        ballot: Ballot::Missing,
-    }
+    Seat { ballot: None }
 }
 
 // A vote for (mask, state label).
 fn cast(mask: u32, n: u32) -> Seat {
     let state = StateLabel(n);
     let d = Digest { mask, state };
-    Seat {
-        ballot: Ballot::Cast(d),
-    }
+    Seat { ballot: Some(d) }
 }
 
-fn digit(n: u32) -> u8 {
-    (48 + n % 10) as u8
-}
-
-// (mask, state label), of one digit each.
+// (mask, state label).
 fn print_digest(rt: &impl Print, d: Digest) -> io::Result<()> {
-    let out = [40u8, digit(d.mask), 44u8, digit(d.state.0), 41u8];
-    rt.write_all(&out)
+    print!(rt; "({},{})", d.mask, d.state.0)
 }
 
 fn print_winner(rt: &impl Print, a: Poll) -> io::Result<()> {
     match a {
-        Poll::Nobody => rt.write_all(b"nobody"),
-        Poll::Refused(why) => {
-            let out = [digit(why.number())];
-            rt.write_all(&out)
-        }
-        Poll::Won(d) => print_digest(rt, d),
+        Ok(None) => rt.write_all(b"nobody"),
+        Err(why) => rt.print(why.number()),
+        Ok(Some(d)) => print_digest(rt, d),
     }
 }
 
 fn print_decision(rt: &impl Print, a: Decision) -> io::Result<()> {
     match a {
-        Decision::Undecided => rt.write_all(b"no"),
-        Decision::Refused(why) => {
-            let out = [digit(why.number())];
-            rt.write_all(&out)
-        }
-        Decision::Decided(d) => print_digest(rt, d),
+        Ok(None) => rt.write_all(b"no"),
+        Err(why) => rt.print(why.number()),
+        Ok(Some(d)) => print_digest(rt, d),
     }
 }
 
 // A line: the winner among the votes there, a tab, what they are decided for.
 fn show(rt: &impl Print, g: usize, m: usize, n: u32, seats: [Seat; 7]) -> io::Result<()> {
-    let group = Group { g, m };
-    let label = RoundLabel(n);
-    print_winner(
-        rt,
-        vote::winner(Votes {
-            group,
-            label,
-            seats,
-        }),
-    )?;
+    let votes = Votes {
+        group: Group { g, m },
+        label: RoundLabel(n),
+        seats,
+    };
+    print_winner(rt, vote::winner(votes))?;
     rt.write_all(b"\t")?;
-    print_decision(
-        rt,
-        vote::decide(Votes {
-            group,
-            label,
-            seats,
-        }),
-    )?;
+    print_decision(rt, vote::decide(votes))?;
     rt.write_all(b"\n")
 }
 
@@ -142,5 +116,5 @@ fn main(rt: HostRuntime) -> io::Result<()> {
     show_order(&rt)?;
     show_refused(&rt)?;
     let e = none();
-    show(&rt, 7, 16, 4294967295, [e, e, e, e, e, e, e])
+    show(&rt, 7, 16, u32::MAX, [e, e, e, e, e, e, e])
 }

@@ -1,5 +1,6 @@
 -- `decision` is decided exactly when every completion has the same winner, `winning` is the winner, and each question has one answer.
 -- These are all that the layers above use of the vote. Assumes nothing.
+use Rattle.std.specs.Prelude.{Err, None, Ok, Some}
 use Prim.Native.Nat.{ℕ, ◌+◌, ◌*◌, ◌%◌, ◌≤◌, ◌<◌}
 use native.Mathlib.Omega.{arith}
 use native.Mathlib.Decide.{dec_le}
@@ -14,13 +15,10 @@ use Rattle.units.specs.Pick.{pick}
 use Rattle.units.proofs.Every.{absurd_by}
 use Rattle.units.proofs.TheNumbers.{six}
 use Rattle.vote.specs.declared.digest.Digest.{Digest}
-use Rattle.vote.specs.declared.votes.Ballot.{Ballot}
-use Rattle.vote.specs.declared.votes.Ballot.TheVariants.{Missing, Cast}
+use Rattle.vote.specs.Digest.{Ballot}
 use Rattle.vote.specs.declared.votes.Votes.{Votes}
-use Rattle.vote.specs.declared.judge.Decision.{Decision}
-use Rattle.vote.specs.declared.judge.Decision.TheVariants.{Undecided, Decided, Refused}
-use Rattle.vote.specs.declared.judge.Poll.{Poll}
-use Rattle.vote.specs.declared.judge.Poll.TheVariants.{Nobody, Won, Refused as Denied}
+use Rattle.vote.specs.Digest.{Decision}
+use Rattle.vote.specs.Digest.{Poll}
 use Rattle.vote.specs.Digest.{rank, unrank}
 use Rattle.vote.specs.Vote.{total, count, missing, Wins, Decides, Answers, Names, ballot_of, all_ballots, ballots, rank_of, votes_fit}
 use Rattle.vote.specs.Decision.{seat, ranks_of, strengths, largest, missing_of, held_off, rival_of, ruled_at, ruled, decision, strongest_at, winning}
@@ -35,8 +33,8 @@ use Rattle.vote.proofs.Rule.{strongest, weaker, rank_of_strength, test_safe, tes
 missing_length : (s : List Ballot) → missing s ≤ length s
 unfolding total
 missing_length [] = omega arith
-missing_length (Missing ∷ s) = omega (arith, missing_length s)
-missing_length (Cast d ∷ s) = omega (arith, missing_length s)
+missing_length (None ∷ s) = omega (arith, missing_length s)
+missing_length (Some d ∷ s) = omega (arith, missing_length s)
 
 module _ (v : Votes) (fit : votes_fit v ≡ true) where
   ranks : List ℕ
@@ -137,7 +135,7 @@ module _ (v : Votes) (fit : votes_fit v ≡ true) where
     Test b = held_off (rival_of v.group.m v.label (strengths ranks) (rank d)) (missing (ballots v)) (count d (all_ballots v) * seat + rank d) ≡ b
 
     ruled_is : ruled v.group v.label ranks
-        ≡ pick (held_off (rival_of v.group.m v.label (strengths ranks) (rank d)) (missing (ballots v)) (count d (all_ballots v) * seat + rank d)) (Decided d) Undecided
+        ≡ pick (held_off (rival_of v.group.m v.label (strengths ranks) (rank d)) (missing (ballots v)) (count d (all_ballots v) * seat + rank d)) (Ok (Some d)) (Ok None)
     unfolding ruled ruled_at pick
     ruled_is = rw (ne_eqb (largest (strengths ranks)) 0 some, named, first, missing_is, ← top)
 
@@ -161,7 +159,7 @@ module _ (v : Votes) (fit : votes_fit v ≡ true) where
     unfolding pick
     ruled_something = subst⁻¹ (Answers v) ruled_is (told _ refl)
       where
-        told : (b : Bool) → Test b → Answers v (pick b (Decided d) Undecided)
+        told : (b : Bool) → Test b → Answers v (pick b (Ok (Some d)) (Ok None))
         told true h = (fit, decided_yes h)
         told false h = (fit, decided_no h)
 
@@ -184,7 +182,7 @@ pub decision_exact : (v : Votes) → Answers v (decision v)
 unfolding decision pick
 decision_exact v = told (votes_fit v) refl
   where
-    told : (b : Bool) → votes_fit v ≡ b → Answers v (pick b (ruled v.group v.label (ranks_of v.seats)) (Refused Range))
+    told : (b : Bool) → votes_fit v ≡ b → Answers v (pick b (ruled v.group v.label (ranks_of v.seats)) (Err Range))
     told true fit = ruled_exact v fit
     told false e = (refl, e)
 
@@ -192,7 +190,7 @@ pub winning_exact : (v : Votes) → Names v (winning v)
 unfolding winning pick
 winning_exact v = told (votes_fit v) refl
   where
-    told : (b : Bool) → votes_fit v ≡ b → Names v (pick b (strongest_at (largest (strengths (ranks_of v.seats)))) (Denied Range))
+    told : (b : Bool) → votes_fit v ≡ b → Names v (pick b (strongest_at (largest (strengths (ranks_of v.seats)))) (Err Range))
     told true fit = strongest_exact v fit
     told false e = (refl, e)
 
@@ -209,23 +207,23 @@ module _ (v : Votes) where
   decided_one fit d e p q = winners_one fit d e (p _ (as_it_is _ _ (ballots v))) (q _ (as_it_is _ _ (ballots v)))
 
   pub one_answer : (r t : Decision) → Answers v r → Answers v t → r ≡ t
-  one_answer (Refused a) (Refused b) p q = ap Refused (six a p.0 ∙ sym (six b q.0))
-  one_answer (Refused a) Undecided p q = never (votes_fit v) q.0 p.1
-  one_answer (Refused a) (Decided e) p q = never (votes_fit v) q.0 p.1
-  one_answer Undecided (Refused b) p q = never (votes_fit v) p.0 q.1
-  one_answer Undecided Undecided p q = refl
-  one_answer Undecided (Decided e) p q = absurd (p.1 e q.1)
-  one_answer (Decided d) (Refused b) p q = never (votes_fit v) p.0 q.1
-  one_answer (Decided d) Undecided p q = absurd (q.1 d p.1)
-  one_answer (Decided d) (Decided e) p q = ap Decided (decided_one p.0 d e p.1 q.1)
+  one_answer (Err a) (Err b) p q = ap Err (six a p.0 ∙ sym (six b q.0))
+  one_answer (Err a) (Ok None) p q = never (votes_fit v) q.0 p.1
+  one_answer (Err a) (Ok (Some e)) p q = never (votes_fit v) q.0 p.1
+  one_answer (Ok None) (Err b) p q = never (votes_fit v) p.0 q.1
+  one_answer (Ok None) (Ok None) p q = refl
+  one_answer (Ok None) (Ok (Some e)) p q = absurd (p.1 e q.1)
+  one_answer (Ok (Some d)) (Err b) p q = never (votes_fit v) p.0 q.1
+  one_answer (Ok (Some d)) (Ok None) p q = absurd (q.1 d p.1)
+  one_answer (Ok (Some d)) (Ok (Some e)) p q = ap (λ d. Ok (Some d)) (decided_one p.0 d e p.1 q.1)
 
   pub one_winner : (r t : Poll) → Names v r → Names v t → r ≡ t
-  one_winner (Denied a) (Denied b) p q = ap Denied (six a p.0 ∙ sym (six b q.0))
-  one_winner (Denied a) Nobody p q = never (votes_fit v) q.0 p.1
-  one_winner (Denied a) (Won e) p q = never (votes_fit v) q.0 p.1
-  one_winner Nobody (Denied b) p q = never (votes_fit v) p.0 q.1
-  one_winner Nobody Nobody p q = refl
-  one_winner Nobody (Won e) p q = absurd (p.1 e q.1)
-  one_winner (Won d) (Denied b) p q = never (votes_fit v) p.0 q.1
-  one_winner (Won d) Nobody p q = absurd (q.1 d p.1)
-  one_winner (Won d) (Won e) p q = ap Won (winners_one p.0 d e p.1 q.1)
+  one_winner (Err a) (Err b) p q = ap Err (six a p.0 ∙ sym (six b q.0))
+  one_winner (Err a) (Ok None) p q = never (votes_fit v) q.0 p.1
+  one_winner (Err a) (Ok (Some e)) p q = never (votes_fit v) q.0 p.1
+  one_winner (Ok None) (Err b) p q = never (votes_fit v) p.0 q.1
+  one_winner (Ok None) (Ok None) p q = refl
+  one_winner (Ok None) (Ok (Some e)) p q = absurd (p.1 e q.1)
+  one_winner (Ok (Some d)) (Err b) p q = never (votes_fit v) p.0 q.1
+  one_winner (Ok (Some d)) (Ok None) p q = absurd (q.1 d p.1)
+  one_winner (Ok (Some d)) (Ok (Some e)) p q = ap (λ d. Ok (Some d)) (winners_one p.0 d e p.1 q.1)

@@ -1,4 +1,5 @@
 -- Counts in a list of ballots and in its completions. Assumes nothing.
+use Rattle.std.specs.Prelude.{None, Some}
 use Prim.Native.Nat.{ℕ, ◌+◌, ◌≤◌}
 use native.Mathlib.Omega.{arith}
 use native.Mathlib.Decide.{dec_le}
@@ -8,8 +9,7 @@ use mathlib.Core.List.{List, [], ◌∷◌, ◌++◌}
 use mathlib.Core.Logic.{◌⊎◌, inl, inr, ⊎_elim, by_cases}
 use Rattle.units.specs.declared.labels.RoundLabel.{RoundLabel}
 use Rattle.vote.specs.declared.digest.Digest.{Digest}
-use Rattle.vote.specs.declared.votes.Ballot.{Ballot}
-use Rattle.vote.specs.declared.votes.Ballot.TheVariants.{Missing, Cast}
+use Rattle.vote.specs.Digest.{Ballot}
 use Rattle.vote.specs.Digest.{legal, same}
 use Rattle.vote.specs.Vote.{bit, votes_for, total, count, missing, Completes, done, kept, filled}
 use Rattle.vote.proofs.Order.{same_true, same_refl, same_dec}
@@ -18,10 +18,10 @@ bit_le : (b : Bool) → bit b ≤ 1
 bit_le true = omega arith
 bit_le false = omega arith
 
-pub for_self : (d : Digest) → votes_for d (Cast d) ≡ 1
+pub for_self : (d : Digest) → votes_for d (Some d) ≡ 1
 for_self d = ap bit (same_refl d)
 
-pub for_other : (d e : Digest) → (e ≡ d → ⊥) → votes_for d (Cast e) ≡ 0
+pub for_other : (d e : Digest) → (e ≡ d → ⊥) → votes_for d (Some e) ≡ 0
 for_other d e n = told (same e d) refl
   where
     told : (b : Bool) → same e d ≡ b → bit b ≡ 0
@@ -31,8 +31,8 @@ for_other d e n = told (same e d) refl
 -- ---- what holds of each vote
 
 abbrev pub AtBallot : (Digest → Type 0) → Ballot → Type 0
-AtBallot P Missing = Unit {0}
-AtBallot P (Cast d) = P d
+AtBallot P None = Unit {0}
+AtBallot P (Some d) = P d
 
 unfoldable pub All : (Digest → Type 0) → List Ballot → Type 0
 All P [] = Unit {0}
@@ -41,8 +41,8 @@ All P (b ∷ s) = AtBallot P b × All P s
 pub all_voted : (P : Digest → Type 0) (s : List Ballot) → All P s → (d : Digest) → 1 ≤ count d s → P d
 unfolding All total
 all_voted P [] h d k = absurd (omega arith)
-all_voted P (Missing ∷ s) h d k = all_voted P s h.1 d (omega arith)
-all_voted P (Cast x ∷ s) h d k =
+all_voted P (None ∷ s) h d k = all_voted P s h.1 d (omega arith)
+all_voted P (Some x ∷ s) h d k =
     ⊎_elim (λ p. subst P p h.0) (λ n. all_voted P s h.1 d (omega (arith, for_other d x n))) (same_dec x d)
 
 -- ---- completions
@@ -77,26 +77,26 @@ module _ (m : ℕ) (label : RoundLabel) where
 -- every missing ballot is a vote for e
 unfoldable pub fill : Digest → List Ballot → List Ballot
 fill e [] = []
-fill e (Missing ∷ s) = Cast e ∷ fill e s
-fill e (Cast d ∷ s) = Cast d ∷ fill e s
+fill e (None ∷ s) = Some e ∷ fill e s
+fill e (Some d ∷ s) = Some d ∷ fill e s
 
 pub fill_completes : (m : ℕ) (label : RoundLabel) (e : Digest) → legal m label e ≡ true → (s : List Ballot) → Completes m label s (fill e s)
 unfolding fill
 fill_completes m label e h [] = done
-fill_completes m label e h (Missing ∷ s) = filled h (fill_completes m label e h s)
-fill_completes m label e h (Cast d ∷ s) = kept (fill_completes m label e h s)
+fill_completes m label e h (None ∷ s) = filled h (fill_completes m label e h s)
+fill_completes m label e h (Some d ∷ s) = kept (fill_completes m label e h s)
 
 pub fill_count : (e : Digest) (s : List Ballot) → count e (fill e s) ≡ count e s + missing s
 unfolding fill total
 fill_count e [] = refl
-fill_count e (Missing ∷ s) = omega (arith, fill_count e s, for_self e)
-fill_count e (Cast d ∷ s) = omega (arith, fill_count e s)
+fill_count e (None ∷ s) = omega (arith, fill_count e s, for_self e)
+fill_count e (Some d ∷ s) = omega (arith, fill_count e s)
 
 pub fill_other : (d e : Digest) → (e ≡ d → ⊥) → (s : List Ballot) → count d (fill e s) ≡ count d s
 unfolding fill total
 fill_other d e n [] = refl
-fill_other d e n (Missing ∷ s) = omega (arith, fill_other d e n s, for_other d e n)
-fill_other d e n (Cast x ∷ s) = omega (arith, fill_other d e n s)
+fill_other d e n (None ∷ s) = omega (arith, fill_other d e n s, for_other d e n)
+fill_other d e n (Some x ∷ s) = omega (arith, fill_other d e n s)
 
 pub total_append : (f : Ballot → ℕ) (s t : List Ballot) → total f (s ++ t) ≡ total f s + total f t
 unfolding total

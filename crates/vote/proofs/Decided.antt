@@ -1,9 +1,9 @@
 -- What a decided vote says: every completion has the chosen digest as winner, nothing is out of range, and the chosen digest is legal, for somebody voted it. Assumes nothing.
+use Rattle.std.specs.Prelude.{Ok, Some}
 use Prim.Native.Nat.{◌≤◌}
 use mathlib.Core.Path.{◌≡◌, subst}
 use mathlib.Core.Bool.{true}
 use Rattle.vote.specs.declared.digest.Digest.{Digest}
-use Rattle.vote.specs.declared.judge.Decision.TheVariants.{Decided}
 use Rattle.vote.specs.declared.votes.Votes.{Votes}
 use Rattle.vote.specs.Digest.{legal}
 use Rattle.vote.specs.Vote.{Answers, Decides, ballots, votes_fit}
@@ -12,7 +12,7 @@ use Rattle.vote.proofs.Answer.{decision_exact}
 use Rattle.vote.proofs.Counting.{all_voted, as_it_is}
 use Rattle.vote.proofs.Facts.{group_legal, round}
 
-module _ (v : Votes) (d : Digest) (e : decision v ≡ Decided d) where
+module _ (v : Votes) (d : Digest) (e : decision v ≡ Ok (Some d)) where
   pub decided_fit : votes_fit v ≡ true
   decided_fit = (subst (Answers v) e (decision_exact v)).0
 

@@ -1,4 +1,5 @@
 -- What it says that votes are in range: the round, legal votes, and none beyond the group. Assumes nothing.
+use Rattle.std.specs.Prelude.{None, Some}
 use Prim.Native.Nat.{ℕ, zero, suc, ◌+◌, ◌≤◌, ◌<◌}
 use native.Mathlib.Omega.{arith}
 use mathlib.Core.Path.{◌≡◌, refl, sym, ap, subst, ◌∙◌}
@@ -10,8 +11,7 @@ use borrow.Author.Tests.{le-ltb}
 use Rattle.units.specs.declared.labels.RoundLabel.{RoundLabel}
 use Rattle.units.proofs.Every.{absurd_by, and_right}
 use Rattle.vote.specs.declared.digest.Digest.{Digest}
-use Rattle.vote.specs.declared.votes.Ballot.{Ballot}
-use Rattle.vote.specs.declared.votes.Ballot.TheVariants.{Missing, Cast}
+use Rattle.vote.specs.Digest.{Ballot}
 use Rattle.vote.specs.declared.votes.Seat.{Seat}
 use Rattle.vote.specs.declared.votes.Votes.{Votes}
 use Rattle.vote.specs.Digest.{legal}
@@ -39,24 +39,24 @@ all_take P (suc n) (b ∷ s) h = (h.0, all_take P n s h.1)
 none_count : (d : Digest) (s : List Ballot) → All (λ e. ⊥) s → count d s ≡ 0
 unfolding All total
 none_count d [] h = refl
-none_count d (Missing ∷ s) h = omega (arith, none_count d s h.1)
-none_count d (Cast e ∷ s) h = absurd h.0
+none_count d (None ∷ s) h = omega (arith, none_count d s h.1)
+none_count d (Some e ∷ s) h = absurd h.0
 
 none_missing : (s : List Ballot) → All (λ e. ⊥) s → missing s ≡ length s
 unfolding All total
 none_missing [] h = refl
-none_missing (Missing ∷ s) h = omega (arith, none_missing s h.1)
-none_missing (Cast e ∷ s) h = absurd h.0
+none_missing (None ∷ s) h = omega (arith, none_missing s h.1)
+none_missing (Some e ∷ s) h = absurd h.0
 
 seat_legal : (inside : Bool) (m : ℕ) (label : RoundLabel) (b : Ballot) → seat_fits inside m label b ≡ true → AtBallot (λ d. legal m label d ≡ true) b
 unfolding seat_fits
-seat_legal inside m label Missing h = tt
-seat_legal inside m label (Cast d) h = and_right inside (legal m label d) h
+seat_legal inside m label None h = tt
+seat_legal inside m label (Some d) h = and_right inside (legal m label d) h
 
 seat_beyond : (m : ℕ) (label : RoundLabel) (b : Ballot) → seat_fits false m label b ≡ true → AtBallot (λ d. ⊥) b
 unfolding seat_fits
-seat_beyond m label Missing h = tt
-seat_beyond m label (Cast d) h = absurd_by (cc)
+seat_beyond m label None h = tt
+seat_beyond m label (Some d) h = absurd_by (cc)
 
 -- ---- votes in range
 

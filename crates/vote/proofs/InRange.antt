@@ -1,4 +1,5 @@
 -- `legal`, `seats_fit` and `votes_fit` hold exactly where each clause of document 01 does; and what one vote more does to seats. Assumes nothing.
+use Rattle.std.specs.Prelude.{None, Some}
 use Prim.Native.Nat.{ℕ, ◌≤◌, ◌<◌}
 use native.Mathlib.Omega.{arith}
 use native.Mathlib.Decide.{dec_lt, ℕ_discrete}
@@ -20,8 +21,7 @@ use Rattle.units.proofs.Every.{no_way, and_left, and_right, and_both, and_three,
 use Rattle.units.proofs.InRange.{within_range, within_made, group_range, group_made}
 use Rattle.units.proofs.Masks.{mask_end_is}
 use Rattle.vote.specs.declared.digest.Digest.{Digest}
-use Rattle.vote.specs.declared.votes.Ballot.{Ballot}
-use Rattle.vote.specs.declared.votes.Ballot.TheVariants.{Missing, Cast}
+use Rattle.vote.specs.Digest.{Ballot}
 use Rattle.vote.specs.declared.votes.Seat.{Seat}
 use Rattle.vote.specs.declared.votes.Votes.{Votes}
 use Rattle.vote.specs.Digest.{legal}
@@ -53,23 +53,23 @@ module _ (m : ℕ) (label : RoundLabel) (d : Digest) where
   legal_exact = (legal_range, legal_made)
 
 -- ---- seats
-inside_seat : (inside : Bool) (m : ℕ) (label : RoundLabel) (b : Ballot) (d : Digest) → seat_fits inside m label b ≡ true → b ≡ Cast d → (inside ≡ true) × (legal m label d ≡ true)
+inside_seat : (inside : Bool) (m : ℕ) (label : RoundLabel) (b : Ballot) (d : Digest) → seat_fits inside m label b ≡ true → b ≡ Some d → (inside ≡ true) × (legal m label d ≡ true)
 unfolding seat_fits
 inside_seat inside m label b d h e =
     let k : (inside && legal m label d) ≡ true = subst (λ (x : Ballot). seat_fits inside m label x ≡ true) e h in
     (and_left inside (legal m label d) k, and_right inside (legal m label d) k)
 
-seat_made : (inside : Bool) (m : ℕ) (label : RoundLabel) (b : Ballot) → ((d : Digest) → b ≡ Cast d → (inside ≡ true) × (legal m label d ≡ true)) → seat_fits inside m label b ≡ true
+seat_made : (inside : Bool) (m : ℕ) (label : RoundLabel) (b : Ballot) → ((d : Digest) → b ≡ Some d → (inside ≡ true) × (legal m label d ≡ true)) → seat_fits inside m label b ≡ true
 unfolding seat_fits
-seat_made inside m label Missing h = refl
-seat_made inside m label (Cast d) h = let k = h d refl in and_both k.0 k.1
+seat_made inside m label None h = refl
+seat_made inside m label (Some d) h = let k = h d refl in and_both k.0 k.1
 
-cast_some : (d : Digest) → Missing ≡ Cast d → ⊥
+cast_some : (d : Digest) → None ≡ Some d → ⊥
 cast_some d e = no_way (ap voted e)
   where
     voted : Ballot → Bool
-    voted Missing = false
-    voted (Cast d) = true
+    voted None = false
+    voted (Some d) = true
 
 module _ (s : Group) (label : RoundLabel) (votes : List Seat) where
   pub seats_length : seats_fit s label votes ≡ true → length votes ≡ 7
@@ -114,17 +114,17 @@ module _ (s : Group) (label : RoundLabel) (votes : List Seat) where
   -- one vote more
   pub seated_fit : seats_fit s label votes ≡ true → (seat : ℕ) (d : Digest) → seat < s.g → s.g ≤ 7 → legal s.m label d ≡ true → seats_fit s label (seated votes seat d) ≡ true
   unfolding seat_fits seats_fit
-  seated_fit h seat d l k q = and_both (eq-eqb (length (seated votes seat d)) 7 (length-set votes seat (record { ballot = Cast d }) ∙ seats_length h)) (every_all (seat_at s label (seated votes seat d)) 7 place)
+  seated_fit h seat d l k q = and_both (eq-eqb (length (seated votes seat d)) 7 (length-set votes seat (record { ballot = Some d }) ∙ seats_length h)) (every_all (seat_at s label (seated votes seat d)) 7 place)
     where
       here : seat_at s label (seated votes seat d) seat ≡ true
       here =
-          ap (λ (v : Seat). seat_fits (ltb seat s.g) s.m label v.ballot) (get_or-set_same votes seat (record { ballot = Cast d }) nobody (omega (arith, seats_length h)))
+          ap (λ (v : Seat). seat_fits (ltb seat s.g) s.m label v.ballot) (get_or-set_same votes seat (record { ballot = Some d }) nobody (omega (arith, seats_length h)))
           ∙ and_both (lt-ltb seat s.g l) q
 
       place : (i : ℕ) → i < 7 → seat_at s label (seated votes seat d) i ≡ true
       place i b =
           by_cases (ℕ_discrete i seat) (λ e. subst (λ (j : ℕ). seat_at s label (seated votes seat d) j ≡ true) (sym e) here)
-          (λ n. ap (λ (v : Seat). seat_fits (ltb i s.g) s.m label v.ballot) (get_or-set_other votes seat i (record { ballot = Cast d }) nobody n) ∙ seats_place h i b)
+          (λ n. ap (λ (v : Seat). seat_fits (ltb i s.g) s.m label v.ballot) (get_or-set_other votes seat i (record { ballot = Some d }) nobody n) ∙ seats_place h i b)
 
 -- no vote
 pub unseated_fit : (s : Group) (label : RoundLabel) → seats_fit s label (replicate controllers_top nobody) ≡ true

@@ -13,7 +13,7 @@ use Rattle.units.specs.declared.labels.RoundLabel.{RoundLabel}
 use Rattle.units.specs.Pick.{pick}
 use Rattle.units.proofs.Every.{absurd_by}
 use Rattle.vote.specs.declared.digest.Digest.{Digest}
-use Rattle.vote.specs.declared.votes.Ballot.{Ballot}
+use Rattle.vote.specs.Digest.{Ballot}
 use Rattle.vote.specs.Digest.{legal, rank, full, least}
 use Rattle.vote.specs.Vote.{count, rank_of}
 use Rattle.vote.specs.Decision.{seat, strength_of, strengths, largest, other_than, others_than, outsider, held_off, rival_of}

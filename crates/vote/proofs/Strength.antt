@@ -1,4 +1,5 @@
 -- Ranks stand for legal votes: their tallies are the counts, and the strongest is the winner. Assumes nothing.
+use Rattle.std.specs.Prelude.{None, Some}
 use Prim.Native.Nat.{ℕ, ◌+◌, ◌*◌, ◌≤◌}
 use native.Mathlib.Omega.{arith}
 use native.Mathlib.Decide.{dec_le}
@@ -10,8 +11,7 @@ use borrow.Author.Tests.{eq-eqb, ne_eqb}
 use Rattle.units.specs.declared.labels.RoundLabel.{RoundLabel}
 use Rattle.units.specs.Pick.{pick}
 use Rattle.vote.specs.declared.digest.Digest.{Digest}
-use Rattle.vote.specs.declared.votes.Ballot.{Ballot}
-use Rattle.vote.specs.declared.votes.Ballot.TheVariants.{Missing, Cast}
+use Rattle.vote.specs.Digest.{Ballot}
 use Rattle.vote.specs.Digest.{legal, rank}
 use Rattle.vote.specs.Vote.{bit, votes_for, total, count, missing, rank_of}
 use Rattle.vote.specs.Decision.{seat, tally_of, strength_of, largest}
@@ -26,19 +26,19 @@ module _ (m : ℕ) (label : RoundLabel) (w : Round m label) where
   tally_count : (d : Digest) → legal m label d ≡ true → (s : List Ballot) → All (λ e. legal m label e ≡ true) s → tally_of (rank d) (map rank_of s) ≡ count d s
   unfolding tally_of total All
   tally_count d h [] ok = refl
-  tally_count d h (Missing ∷ s) ok =
+  tally_count d h (None ∷ s) ok =
       omega (arith, ap bit (ne_eqb 0 (rank d) (λ z. absurd (omega (arith, rank_some d h)))), tally_count d h s ok.1)
-  tally_count d h (Cast e ∷ s) ok =
+  tally_count d h (Some e ∷ s) ok =
       ⊎_elim
-      (λ p. omega (arith, ap bit (eq-eqb (rank e) (rank d) (ap rank p)), ap (λ (x : Digest). votes_for d (Cast x)) p, for_self d, tally_count d h s ok.1))
+      (λ p. omega (arith, ap bit (eq-eqb (rank e) (rank d) (ap rank p)), ap (λ (x : Digest). votes_for d (Some x)) p, for_self d, tally_count d h s ok.1))
       (λ n. omega (arith, ap bit (ne_eqb (rank e) (rank d) (λ z. n (rank_injective m label w e d ok.0 h z))), for_other d e n, tally_count d h s ok.1))
       (same_dec e d)
 
   pub tally_missing : (s : List Ballot) → All (λ e. legal m label e ≡ true) s → tally_of 0 (map rank_of s) ≡ missing s
   unfolding tally_of total All
   tally_missing [] ok = refl
-  tally_missing (Missing ∷ s) ok = omega (arith, tally_missing s ok.1)
-  tally_missing (Cast e ∷ s) ok =
+  tally_missing (None ∷ s) ok = omega (arith, tally_missing s ok.1)
+  tally_missing (Some e ∷ s) ok =
       omega (arith, ap bit (ne_eqb (rank e) 0 (λ z. absurd (omega (arith, rank_some e ok.0)))), tally_missing s ok.1)
 
   pub strength_is : (d : Digest) → legal m label d ≡ true → (s : List Ballot) → All (λ e. legal m label e ≡ true) s
@@ -53,8 +53,8 @@ module _ (m : ℕ) (label : RoundLabel) (w : Round m label) where
 pub largest_above : (f : ℕ → ℕ) (s : List Ballot) (e : Digest) → 1 ≤ count e s → f (rank e) ≤ largest (map f (map rank_of s))
 unfolding largest total
 largest_above f [] e k = absurd (omega arith)
-largest_above f (Missing ∷ s) e k = omega (arith, largest_above f s e (omega arith))
-largest_above f (Cast d ∷ s) e k =
+largest_above f (None ∷ s) e k = omega (arith, largest_above f s e (omega arith))
+largest_above f (Some d ∷ s) e k =
     ⊎_elim (λ p. omega (arith, ap (λ (x : Digest). f (rank x)) p)) (λ n. omega (arith, largest_above f s e (omega (arith, for_other e d n)))) (same_dec d e)
 
 -- it is 0, or that of a vote
@@ -62,9 +62,9 @@ pub largest_found : (f : ℕ → ℕ) → f 0 ≡ 0 → (s : List Ballot)
     → (largest (map f (map rank_of s)) ≡ 0) ⊎ ((d : Digest) × (1 ≤ count d s) × (f (rank d) ≡ largest (map f (map rank_of s))))
 unfolding largest total
 largest_found f z [] = inl refl
-largest_found f z (Missing ∷ s) =
+largest_found f z (None ∷ s) =
     ⊎_elim (λ p. inl (omega arith)) (λ q. inr (q.0, omega (arith, q.1), omega (arith, q.2))) (largest_found f z s)
-largest_found f z (Cast d ∷ s) =
+largest_found f z (Some d ∷ s) =
     let self = for_self d in
     ⊎_elim (λ p. by_cases (dec_le 1 (f (rank d))) (λ k. inr (d, omega arith, omega arith)) (λ k. inl (omega arith)))
     (λ q. by_cases (dec_le (f (rank d)) (f (rank q.0))) (λ k. inr (q.0, omega (arith, q.1), omega (arith, q.2)))

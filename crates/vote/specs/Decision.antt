@@ -1,6 +1,6 @@
 -- The decision and the winner as functions of the votes, by ranks alone. That they are what specs/Vote.antt asks is
 -- `decision_exact` and `winning_exact` of proofs/Answer.antt; callers cite those and never this text.
-use Rattle.std.specs.Prelude.{ℕ, ◌+◌, ◌*◌, ◌-◌, ◌%◌, ◌^◌, max, Bool, true, List, [], ◌∷◌, map, ltb, eqb}
+use Rattle.std.specs.Prelude.{ℕ, ◌+◌, ◌*◌, ◌-◌, ◌%◌, ◌^◌, max, Bool, true, List, [], ◌∷◌, map, ltb, eqb, Err, None, Ok, Some}
 use Rattle.units.specs.Limits.{controllers_top}
 use Rattle.units.specs.Pick.{pick}
 use Rattle.units.specs.declared.labels.RoundLabel.{RoundLabel}
@@ -8,10 +8,8 @@ use Rattle.units.specs.declared.refusal.Refusal.TheVariants.{Range}
 use Rattle.units.specs.declared.settings.Group.{Group}
 use Rattle.vote.specs.declared.votes.Seat.{Seat}
 use Rattle.vote.specs.declared.votes.Votes.{Votes}
-use Rattle.vote.specs.declared.judge.Decision.{Decision}
-use Rattle.vote.specs.declared.judge.Decision.TheVariants.{Undecided, Decided, Refused}
-use Rattle.vote.specs.declared.judge.Poll.{Poll}
-use Rattle.vote.specs.declared.judge.Poll.TheVariants.{Nobody, Won, Refused as Denied}
+use Rattle.vote.specs.Digest.{Decision}
+use Rattle.vote.specs.Digest.{Poll}
 use Rattle.vote.specs.Digest.{rank, unrank, full, least}
 use Rattle.vote.specs.Vote.{bit, ballot_of, rank_of, votes_fit}
 
@@ -66,19 +64,19 @@ rival_of m label l x = pick (eqb (largest (others_than x l)) 0) (outsider m labe
 -- the strongest vote, where its rival is held off
 unfoldable pub ruled_at : Group → RoundLabel → List ℕ → ℕ → Decision
 ruled_at group label l best =
-    pick (eqb best 0) Undecided
+    pick (eqb best 0) (Ok None)
     (pick (held_off (rival_of group.m label (strengths l) (best % seat)) (missing_of group.g l) best)
-    (Decided (unrank (best % seat)))
-    Undecided)
+    (Ok (Some (unrank (best % seat))))
+    (Ok None))
 
 unfoldable pub ruled : Group → RoundLabel → List ℕ → Decision
 ruled group label l = ruled_at group label l (largest (strengths l))
 
 unfoldable pub decision : Votes → Decision
-decision v = pick (votes_fit v) (ruled v.group v.label (ranks_of v.seats)) (Refused Range)
+decision v = pick (votes_fit v) (ruled v.group v.label (ranks_of v.seats)) (Err Range)
 
 unfoldable pub strongest_at : ℕ → Poll
-strongest_at best = pick (eqb best 0) Nobody (Won (unrank (best % seat)))
+strongest_at best = pick (eqb best 0) (Ok None) (Ok (Some (unrank (best % seat))))
 
 unfoldable pub winning : Votes → Poll
-winning v = pick (votes_fit v) (strongest_at (largest (strengths (ranks_of v.seats)))) (Denied Range)
+winning v = pick (votes_fit v) (strongest_at (largest (strengths (ranks_of v.seats)))) (Err Range)

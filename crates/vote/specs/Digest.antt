@@ -1,11 +1,24 @@
 -- Digests of one label: which are legal, when two are the same, and their order.
-use Rattle.std.specs.Prelude.{ℕ, ◌+◌, ◌*◌, ◌-◌, ◌/◌, ◌%◌, ◌^◌, ◌<◌, ◌⊎◌, ◌≡◌, Bool, ◌&&◌, leb, eqb}
+use Rattle.std.specs.Prelude.{ℕ, ◌+◌, ◌*◌, ◌-◌, ◌/◌, ◌%◌, ◌^◌, ◌<◌, ◌⊎◌, ◌≡◌, Bool, ◌&&◌, leb, eqb, Option, Result}
 use Rattle.std.specs.Int.Count.{ones}
 use Rattle.units.specs.declared.labels.RoundLabel.{RoundLabel}
+use Rattle.units.specs.declared.refusal.Refusal.{Refusal}
 use Rattle.units.specs.Labels.{before, just_before}
 use Rattle.units.specs.Limits.{runs_top}
 use Rattle.units.specs.Mask.{mask_end, mask_fits}
 use Rattle.vote.specs.declared.digest.Digest.{Digest}
+
+-- a vote, or none yet
+abbrev pub Ballot : Type 0
+Ballot = Option Digest
+
+-- what a set of votes is decided for, if anything, or why it was refused
+abbrev pub Decision : Type 0
+Decision = Result (Option Digest) Refusal
+
+-- the winner among the votes that are there, if any, or why it was refused
+abbrev pub Poll : Type 0
+Poll = Result (Option Digest) Refusal
 
 -- "A mask .. isn't 0000 and has no bit at m or above", "The state label is below the label"
 unfoldable pub legal : ℕ → RoundLabel → Digest → Bool

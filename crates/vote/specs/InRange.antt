@@ -1,10 +1,9 @@
 -- Clause by clause, in document 01's words: a legal digest, and votes handed in as a value with nothing out of range. What `legal`, `seats_fit` and
 -- `votes_fit` are to be; that they are is `legal_exact`, `seats_exact` and `votes_exact` of proofs/InRange.antt.
-use Rattle.std.specs.Prelude.{ℕ, ◌^◌, ◌≤◌, ◌<◌, ◌≡◌, List, length, get_or}
+use Rattle.std.specs.Prelude.{ℕ, ◌^◌, ◌≤◌, ◌<◌, ◌≡◌, List, length, get_or, Some}
 use Rattle.units.specs.declared.labels.RoundLabel.{RoundLabel}
 use Rattle.units.specs.declared.settings.Group.{Group}
 use Rattle.vote.specs.declared.digest.Digest.{Digest}
-use Rattle.vote.specs.declared.votes.Ballot.TheVariants.{Cast}
 use Rattle.vote.specs.declared.votes.Seat.{Seat}
 use Rattle.vote.specs.declared.votes.Votes.{Votes}
 use Rattle.vote.specs.Vote.{nobody}
@@ -18,7 +17,7 @@ pub record LegalDigest (m : ℕ) (label : RoundLabel) (d : Digest) : Type 0 wher
 
 -- the controller i has voted d
 abbrev pub VotedAt : List Seat → ℕ → Digest → Type 0
-VotedAt seats i d = (get_or seats i nobody).ballot ≡ Cast d
+VotedAt seats i d = (get_or seats i nobody).ballot ≡ Some d
 
 -- there are seven seats, a vote stands in a seat of the group, and is legal for the label
 pub record SeatsInRange (group : Group) (label : RoundLabel) (seats : List Seat) : Type 0 where

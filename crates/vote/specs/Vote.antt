@@ -1,5 +1,5 @@
 -- Document 01's section 'The vote': counts, the winner, completions, and what it is for a set of votes to be decided.
-use Rattle.std.specs.Prelude.{ℕ, ◌+◌, ◌≤◌, ◌≡◌, Bool, true, false, ◌&&◌, List, [], ◌∷◌, map, eqb, ltb, length, take, get_or, set}
+use Rattle.std.specs.Prelude.{ℕ, ◌+◌, ◌≤◌, ◌≡◌, Bool, true, false, ◌&&◌, List, [], ◌∷◌, map, eqb, ltb, length, take, get_or, set, Err, None, Ok, Some}
 use Rattle.units.specs.declared.labels.RoundLabel.{RoundLabel}
 use Rattle.units.specs.declared.settings.Group.{Group}
 use Rattle.units.specs.Every.{every}
@@ -8,14 +8,11 @@ use Rattle.units.specs.Limits.{controllers_top}
 use Rattle.units.specs.Refusal.{number_of}
 use Rattle.units.specs.Settings.{group_fits}
 use Rattle.vote.specs.declared.digest.Digest.{Digest}
-use Rattle.vote.specs.declared.votes.Ballot.{Ballot}
-use Rattle.vote.specs.declared.votes.Ballot.TheVariants.{Missing, Cast}
+use Rattle.vote.specs.Digest.{Ballot}
 use Rattle.vote.specs.declared.votes.Seat.{Seat}
 use Rattle.vote.specs.declared.votes.Votes.{Votes}
-use Rattle.vote.specs.declared.judge.Decision.{Decision}
-use Rattle.vote.specs.declared.judge.Decision.TheVariants.{Undecided, Decided, Refused}
-use Rattle.vote.specs.declared.judge.Poll.{Poll}
-use Rattle.vote.specs.declared.judge.Poll.TheVariants.{Nobody, Won, Refused as Denied}
+use Rattle.vote.specs.Digest.{Decision}
+use Rattle.vote.specs.Digest.{Poll}
 use Rattle.vote.specs.Digest.{legal, same, Lex, rank}
 
 abbrev pub bit : Bool → ℕ
@@ -24,12 +21,12 @@ bit false = 0
 
 -- 1 where the ballot is a vote for d
 abbrev pub votes_for : Digest → Ballot → ℕ
-votes_for d Missing = 0
-votes_for d (Cast e) = bit (same e d)
+votes_for d None = 0
+votes_for d (Some e) = bit (same e d)
 
 abbrev pub gap : Ballot → ℕ
-gap Missing = 1
-gap (Cast e) = 0
+gap None = 1
+gap (Some e) = 0
 
 unfoldable pub total : (Ballot → ℕ) → List Ballot → ℕ
 total f [] = 0
@@ -52,7 +49,7 @@ pub record Wins (s : List Ballot) (d : Digest) : Type 0 where
 pub data Completes (m : ℕ) (label : RoundLabel) : List Ballot → List Ballot → Type 0 where
   done : Completes m label [] []
   kept : {b : Ballot} {s t : List Ballot} → Completes m label s t → Completes m label (b ∷ s) (b ∷ t)
-  filled : {d : Digest} {s t : List Ballot} → legal m label d ≡ true → Completes m label s t → Completes m label (Missing ∷ s) (Cast d ∷ t)
+  filled : {d : Digest} {s t : List Ballot} → legal m label d ≡ true → Completes m label s t → Completes m label (None ∷ s) (Some d ∷ t)
 
 -- "A set of votes is decided for a digest exactly when every completion has it as winner"
 abbrev pub DecidedFor : ℕ → RoundLabel → List Ballot → Digest → Type 0
@@ -72,16 +69,16 @@ ballots v = take v.group.g (all_ballots v)
 
 -- a seat without a vote
 abbrev pub nobody : Seat
-nobody = record { ballot = Missing }
+nobody = record { ballot = None }
 
 -- one vote put in its seat
 abbrev pub seated : List Seat → ℕ → Digest → List Seat
-seated votes seat digest = set votes seat (record { ballot = Cast digest })
+seated votes seat digest = set votes seat (record { ballot = Some digest })
 
 -- a seat of the group holds a legal vote or none, any other seat none
 unfoldable pub seat_fits : Bool → ℕ → RoundLabel → Ballot → Bool
-seat_fits inside m label Missing = true
-seat_fits inside m label (Cast d) = inside && legal m label d
+seat_fits inside m label None = true
+seat_fits inside m label (Some d) = inside && legal m label d
 
 abbrev pub seat_at : Group → RoundLabel → List Seat → ℕ → Bool
 seat_at group label seats i = seat_fits (ltb i group.g) group.m label (get_or seats i nobody).ballot
@@ -99,17 +96,17 @@ Decides v d = DecidedFor v.group.m v.label (ballots v) d
 
 -- what an answer to "what are the votes decided for?" must be, by document 01's number 6 and by the digest that it names
 abbrev pub Answers : Votes → Decision → Type 0
-Answers v (Refused why) = (number_of why ≡ 6) × (votes_fit v ≡ false)
-Answers v Undecided = (votes_fit v ≡ true) × ((d : Digest) → Decides v d → ⊥)
-Answers v (Decided d) = (votes_fit v ≡ true) × Decides v d
+Answers v (Err why) = (number_of why ≡ 6) × (votes_fit v ≡ false)
+Answers v (Ok None) = (votes_fit v ≡ true) × ((d : Digest) → Decides v d → ⊥)
+Answers v (Ok (Some d)) = (votes_fit v ≡ true) × Decides v d
 
 -- what an answer to "who has won?" must be
 abbrev pub Names : Votes → Poll → Type 0
-Names v (Denied why) = (number_of why ≡ 6) × (votes_fit v ≡ false)
-Names v Nobody = (votes_fit v ≡ true) × ((d : Digest) → Wins (ballots v) d → ⊥)
-Names v (Won d) = (votes_fit v ≡ true) × Wins (ballots v) d
+Names v (Err why) = (number_of why ≡ 6) × (votes_fit v ≡ false)
+Names v (Ok None) = (votes_fit v ≡ true) × ((d : Digest) → Wins (ballots v) d → ⊥)
+Names v (Ok (Some d)) = (votes_fit v ≡ true) × Wins (ballots v) d
 
 -- the rank of a vote, 0 where it is missing
 abbrev pub rank_of : Ballot → ℕ
-rank_of Missing = 0
-rank_of (Cast d) = rank d
+rank_of None = 0
+rank_of (Some d) = rank d

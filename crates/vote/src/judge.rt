@@ -7,21 +7,11 @@ use crate::ranks::{SEAT, largest_of, largest_other, ranks_of, strengths_of, tall
 use crate::votes::Votes;
 use units::{Group, Refusal, RoundLabel};
 
-// What a set of votes is decided for.
-#[derive(Clone, Copy)]
-pub enum Decision {
-    Refused(Refusal),
-    Undecided,
-    Decided(Digest),
-}
+// What a set of votes is decided for, if anything.
+pub type Decision = Result<Option<Digest>, Refusal>;
 
-// The winner among the votes that are there.
-#[derive(Clone, Copy)]
-pub enum Poll {
-    Refused(Refusal),
-    Nobody,
-    Won(Digest),
-}
+// The winner among the votes that are there, if any.
+pub type Poll = Result<Option<Digest>, Refusal>;
 
 // Where nobody voted another than x, the rank that a rival is tried by: that of full; of least where x is full; 0 where x is both.
 fn outsider_of(group: Group, label: RoundLabel, x: u64) -> u64
@@ -78,15 +68,15 @@ fn rule(group: Group, label: RoundLabel, ranks: [u64; 7]) -> Decision
     let found = strengths_of(ranks);
     let best = largest_of(found);
     if best == 0 {
-        return Decision::Undecided;
+        return Ok(None);
     }
     let first = best % SEAT;
     let rival = rival_of(group, label, found, first);
     let missing = missing_of(group.g, ranks);
     if held_off(rival, missing, best) {
-        Decision::Decided(Digest::unrank(first))
+        Ok(Some(Digest::unrank(first)))
     } else {
-        Decision::Undecided
+        Ok(None)
     }
 }
 
@@ -101,7 +91,7 @@ pub fn decide(v: Votes) -> Decision
         let ranks = ranks_of(seats);
         rule(group, label, ranks)
     } else {
-        Decision::Refused(Refusal::Range)
+        Err(Refusal::Range)
     }
 }
 
@@ -115,11 +105,11 @@ pub fn winner(v: Votes) -> Poll
         let found = strengths_of(ranks);
         let best = largest_of(found);
         if best == 0 {
-            Poll::Nobody
+            Ok(None)
         } else {
-            Poll::Won(Digest::unrank(best % SEAT))
+            Ok(Some(Digest::unrank(best % SEAT)))
         }
     } else {
-        Poll::Refused(Refusal::Range)
+        Err(Refusal::Range)
     }
 }

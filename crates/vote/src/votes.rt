@@ -6,11 +6,8 @@ use crate::digest::Digest;
 use units::limits::CONTROLLERS;
 use units::{Group, RoundLabel};
 
-#[derive(Clone, Copy)]
-pub enum Ballot {
-    Missing,
-    Cast(Digest),
-}
+// A vote, or none yet.
+pub type Ballot = Option<Digest>;
 
 // A controller's place in the vote.
 #[derive(Clone, Copy)]
@@ -33,8 +30,8 @@ impl Seat {
     {
         let ballot = self.ballot;
         match ballot {
-            Ballot::Missing => true,
-            Ballot::Cast(d) => inside & d.legal(m, label),
+            None => true,
+            Some(d) => inside & d.legal(m, label),
         }
     }
 
@@ -44,8 +41,8 @@ impl Seat {
     {
         let ballot = self.ballot;
         match ballot {
-            Ballot::Missing => 0,
-            Ballot::Cast(d) => d.rank(),
+            None => 0,
+            Some(d) => d.rank(),
         }
     }
 }
@@ -57,7 +54,7 @@ pub fn put_vote(votes: [Seat; 7], seat: usize, digest: Digest) -> [Seat; 7]
     let mut next = votes;
     if seat < CONTROLLERS {
         next[seat] = Seat {
-            ballot: Ballot::Cast(digest),
+            ballot: Some(digest),
         };
     }
     next
@@ -67,14 +64,10 @@ pub fn put_vote(votes: [Seat; 7], seat: usize, digest: Digest) -> [Seat; 7]
 pub fn seats_in_range(seats: [Seat; 7], group: Group, label: RoundLabel) -> bool
     ensures { result ≡ seats_fit group label seats }
 {
-    let mut fit = true;
-    let mut i = 0usize;
-    while i < CONTROLLERS {
-        let seat = seats[i];
-        fit = fit & seat.in_range(i < group.g, group.m, label);
-        i += 1;
-    }
-    fit
+    seats
+        .iter()
+        .enumerate()
+        .all(|(i, seat)| seat.in_range(i < group.g, group.m, label))
 }
 
 impl Votes {

@@ -2,8 +2,8 @@
 use Rattle.session.proofs.Handling.{handed, handed_some}
 use Rattle.station.proofs.hand.Goals as goal
 
-pub say-written-requires : goal.say-written-requires
-say-written-requires g c = (handed c.args.session c.args.piece.now c.args.out.now _ _ c.handle-fed.ensures).room
+pub say-requires : goal.say-requires
+say-requires g c = (handed c.args.session c.args.piece.now c.args.out.now _ _ c.handle-fed.ensures).room
 
 pub returns : goal.returns
 returns g c =

@@ -8,10 +8,11 @@ use Rattle.units.proofs.Masks.{shifted, mask_end_is}
 use Rattle.controller.specs.Merge.{run_bit}
 use Rattle.controller.proofs.merge.run_bit.Goals as goal
 
-pub returns-then-run-ge-RUNS : goal.returns-then-run-ge-RUNS
+pub returns-then-run-lt-RUNS : goal.returns-then-run-lt-RUNS
 unfolding run_bit
-returns-then-run-ge-RUNS c = by_yes _ (le-leb 16 c.args.run c.if-run-ge-RUNS.true) refl
+returns-then-run-lt-RUNS c =
+    let h : c.args.run ≤ 16 = omega arith in by_no _ (lt-leb 16 c.args.run c.if-run-lt-RUNS.true) (shifted c.args.run h ∙ mask_end_is c.args.run h)
 
-pub returns : goal.returns
+pub returns-else-run-lt-RUNS : goal.returns-else-run-lt-RUNS
 unfolding run_bit
-returns c = let h : c.args.run ≤ 16 = omega arith in by_no _ (lt-leb 16 c.args.run c.if-run-ge-RUNS.false) (shifted c.args.run h ∙ mask_end_is c.args.run h)
+returns-else-run-lt-RUNS c = by_yes _ (le-leb 16 c.args.run c.if-run-lt-RUNS.false) refl

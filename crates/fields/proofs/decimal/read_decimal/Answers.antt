@@ -2,7 +2,8 @@
 use mathlib.Core.Path.{ap}
 use mathlib.Core.Bool.{not}
 use native.Mathlib.Omega.{arith}
-use mathlib.Core.Path.{refl, sym}
+use mathlib.Core.Path.{◌≡◌, refl, sym}
+use lib.ListN.{length}
 use Rattle.fields.proofs.Reading.{read_start, plain_within, decimal_form, decimal_value, decimal_wrong, ends_none, ends_tab, long_again, read_grown, read_kept}
 use Rattle.fields.proofs.decimal.read_decimal.Goals as goal
 use Rattle.fields.proofs.decimal.read_decimal.Goals.{then-n, else-n}
@@ -39,26 +40,6 @@ loop-i-preserved c = let l = c.loop-i in
 
 pub returns : goal.returns
 returns c = let l = c.loop-i in
+    let q : l.i ≡ length c.args.text.now = omega (arith, l.invariant.0, c.loop-i-test.false) in
     decimal_value _ _ _ _ _ c.is_plain.ensures (ap not c.if-not-is_plain.false) _ _ l.invariant.2 _ l.invariant.1
-    (sym (ends_none _ _ c.loop-i-test.false)) c.judged-2.ensures
-
-pub bounds-text-i : goal.bounds-text-i
-bounds-text-i c = omega arith
-
-pub overflow_add-i : goal.overflow_add-i
-overflow_add-i c = omega arith
-
-pub overflow_mul-n : goal.overflow_mul-n
-overflow_mul-n c = omega arith
-
-pub overflow_add-n : goal.overflow_add-n
-overflow_add-n c = omega arith
-
-pub overflow_add-i-in-loop-i : goal.overflow_add-i-in-loop-i
-overflow_add-i-in-loop-i c = omega arith
-
-pub loop-i-smaller : goal.loop-i-smaller
-loop-i-smaller c = omega arith
-
-pub overflow_add-i-2 : goal.overflow_add-i-2
-overflow_add-i-2 c = omega arith
+    (sym (ends_none _ _ c.loop-i-test.false)) (rw q c.judged-2.ensures)

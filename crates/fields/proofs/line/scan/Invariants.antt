@@ -1,11 +1,6 @@
--- `scan` meets its contract: after i bytes, the tabs passed and those left make the whole. Assumes nothing.
-use Prim.Native.Nat.{◌-◌}
-use lib.ListN.{length}
+-- `scan` meets its contract: after some bytes, the tabs passed and those left make the whole. Assumes nothing.
 use Rattle.fields.proofs.Scans.{Passed}
 use Rattle.fields.proofs.line.scan.Given as goal
 
-abbrev pub invariant-loop-i : goal.invariant-loop-i
-invariant-loop-i l = Passed l.line l.i l.tabs
-
-abbrev pub decreases-loop-i : goal.decreases-loop-i
-decreases-loop-i l = length l.line - l.i
+abbrev pub invariant-loop-feed : goal.invariant-loop-feed
+invariant-loop-feed l = Passed l.line l.feed l.tabs

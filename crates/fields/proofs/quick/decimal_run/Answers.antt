@@ -4,38 +4,23 @@ use mathlib.Core.Bool.{not}
 use Rattle.fields.proofs.Quicks.{run_fits}
 use mathlib.Core.Path.{refl}
 use native.Mathlib.Omega.{arith}
-use Rattle.fields.proofs.Quicks.{run_start, run_stop, run_again, run_end, digit_taken}
+use Rattle.fields.proofs.Quicks.{run_stop, run_again, run_end, digit_taken}
 use Rattle.fields.proofs.quick.decimal_run.Goals as goal
 
-pub loop-i-init : goal.loop-i-init
-loop-i-init c = run_start _ _ c.requires
-
-pub bounds-text-i : goal.bounds-text-i
-bounds-text-i c = let l = c.loop-i.invariant in let m = c.near-stop.ensures in omega arith
-
 pub returns-then-not-is_digit : goal.returns-then-not-is_digit
-returns-then-not-is_digit c = run_stop _ _ _ _ c.loop-i.invariant _ c.near-stop.ensures c.loop-i-test.true _ c.is_digit.ensures (ap not c.if-not-is_digit.true)
+returns-then-not-is_digit c = run_stop _ _ _ _ c.loop-end.invariant _ c.near-stop.ensures c.loop-end-test.true _ c.is_digit.ensures (ap not c.if-not-is_digit.true)
 
 pub overflow_mul-n : goal.overflow_mul-n
-overflow_mul-n c = let g = run_fits _ _ _ _ c.loop-i.invariant _ c.near-stop.ensures c.loop-i-test.true _ c.is_digit.ensures (ap not c.if-not-is_digit.false) in omega arith
+overflow_mul-n c = let g = run_fits _ _ _ _ c.loop-end.invariant _ c.near-stop.ensures c.loop-end-test.true _ c.is_digit.ensures (ap not c.if-not-is_digit.false) in omega arith
 
 pub overflow_sub-n : goal.overflow_sub-n
-overflow_sub-n c = let l = c.loop-i in let d = digit_taken _ _ c.is_digit.ensures (ap not c.if-not-is_digit.false) in omega (arith, d.low)
-
-pub overflow_cast-n : goal.overflow_cast-n
-overflow_cast-n c = let l = c.loop-i in let d = digit_taken _ _ c.is_digit.ensures (ap not c.if-not-is_digit.false) in omega arith
+overflow_sub-n c = let l = c.loop-end in let d = digit_taken _ _ c.is_digit.ensures (ap not c.if-not-is_digit.false) in omega (arith, d.low)
 
 pub overflow_add-n : goal.overflow_add-n
-overflow_add-n c = let g = run_fits _ _ _ _ c.loop-i.invariant _ c.near-stop.ensures c.loop-i-test.true _ c.is_digit.ensures (ap not c.if-not-is_digit.false) in omega arith
+overflow_add-n c = let g = run_fits _ _ _ _ c.loop-end.invariant _ c.near-stop.ensures c.loop-end-test.true _ c.is_digit.ensures (ap not c.if-not-is_digit.false) in omega arith
 
-pub overflow_add-i : goal.overflow_add-i
-overflow_add-i c = let m = c.near-stop.ensures in omega arith
-
-pub loop-i-preserved : goal.loop-i-preserved
-loop-i-preserved c = run_again _ _ _ _ c.loop-i.invariant _ c.near-stop.ensures c.loop-i-test.true _ c.is_digit.ensures (ap not c.if-not-is_digit.false) _ refl
+pub loop-end-preserved : goal.loop-end-preserved
+loop-end-preserved c = run_again _ _ _ _ c.loop-end.invariant _ c.near-stop.ensures c.loop-end-test.true _ c.is_digit.ensures (ap not c.if-not-is_digit.false) _ refl
 
 pub returns : goal.returns
-returns c = run_end _ _ _ _ c.loop-i.invariant _ c.near-stop.ensures c.loop-i-test.false
-
-pub loop-i-smaller : goal.loop-i-smaller
-loop-i-smaller c = omega arith
+returns c = run_end _ _ _ _ c.loop-end.invariant _ c.near-stop.ensures c.loop-end-test.false

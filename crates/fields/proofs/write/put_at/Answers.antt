@@ -1,8 +1,7 @@
 -- `put_at` meets its contract. Assumes nothing.
 use mathlib.Core.Path.{ap}
 use mathlib.Core.Bool.{not}
-use Rattle.fields.specs.declared.spelling.Spelling.TheVariants.{Factor}
-use Rattle.fields.proofs.Writing.{over_limit, put_nothing, put_refused, room_here, put_digits, digits_decimal, digits_hex4, float_room, float_put, put_same}
+use Rattle.fields.proofs.Writing.{over_limit, put_nothing, put_refused, put_digits, digits_decimal, digits_hex4, float_room, float_put}
 use borrow.Author.Rules.{rules}
 use Rattle.fields.proofs.write.put_at.Goals as goal
 
@@ -12,14 +11,8 @@ returns-then-limit-n c = put_nothing _ _ _ (search (rules, over_limit))
 pub returns-then-not-has_room : goal.returns-then-not-has_room
 returns-then-not-has_room c = let a = c.args in put_refused a.buf.now a.at _ _ _ c.has_room.ensures c.width-k.ensures (ap not c.if-not-has_room.true)
 
-pub put_decimal-requires : goal.put_decimal-requires
-put_decimal-requires c = search (rules, room_here)
-
-pub put_hex-requires : goal.put_hex-requires
-put_hex-requires c = search (rules, room_here)
-
-pub put_float-requires : goal.put_float-requires
-put_float-requires c =
+pub put_fixed-requires-in-Hex16-clause-room : goal.put_fixed-requires-in-Hex16-clause-room
+put_fixed-requires-in-Hex16-clause-room c =
     let a = c.args in
     float_room a.spelling a.n _ c.limit.ensures c.if-limit-n.false _
     c.width-k.ensures c.in-Hex16.is _ a.at a.buf.now c.has_room.ensures
@@ -30,14 +23,14 @@ returns-in-Decimal c = let a = c.args in
     let w = c.width-k.ensures in
     put_digits a.spelling a.n _ a.buf.now _ _ a.at _ _ c.has_room.ensures (ap not c.if-not-has_room.false) w
     (digits_decimal a.spelling a.n _ c.limit.ensures c.if-limit-n.false _ w c.in-Decimal.is)
-    c.put_decimal.ensures.0 c.put_decimal.ensures.1
+    c.put_fixed.ensures.0 c.put_fixed.ensures.1
 
 pub returns-in-Hex4 : goal.returns-in-Hex4
 returns-in-Hex4 c = let a = c.args in
     let w = c.width-k.ensures in
     put_digits a.spelling a.n _ a.buf.now _ _ a.at _ _ c.has_room.ensures (ap not c.if-not-has_room.false) w
     (digits_hex4 a.spelling a.n _ c.limit.ensures c.if-limit-n.false _ w c.in-Hex4.is)
-    c.put_hex.ensures.0 c.put_hex.ensures.1
+    c.put_fixed-in-Hex4.ensures.0 c.put_fixed-in-Hex4.ensures.1
 
 pub returns-in-Hex16 : goal.returns-in-Hex16
 returns-in-Hex16 c =
@@ -45,7 +38,4 @@ returns-in-Hex16 c =
     float_put a.spelling a.n _ c.limit.ensures
     c.if-limit-n.false _ c.width-k.ensures
     c.in-Hex16.is _ a.at a.buf.now c.has_room.ensures
-    (ap not c.if-not-has_room.false) _ _ c.put_float.ensures.0 c.put_float.ensures.1
-
-pub returns-in-Factor : goal.returns-in-Factor
-returns-in-Factor c = let a = c.args in put_same a.spelling Factor a.n a.buf.now _ a.at _ c.in-Factor.is c.put_factor.ensures
+    (ap not c.if-not-has_room.false) _ _ c.put_fixed-in-Hex16.ensures.0 c.put_fixed-in-Hex16.ensures.1

@@ -1,27 +1,19 @@
--- `weight_sum` meets its contract: after i runs the sum is that of the first i, which fits. Assumes nothing.
-use Rattle.std.proofs.Common.{ℕ, ◌+◌, ◌<◌, take, sym, refl, ap, ◌∙◌, subst, ap₂, le_antisymm, arith, rules}
-use Rattle.filter.specs.Share.{sum_of, weight_sum}
-use Rattle.filter.proofs.Sums.{sum_of_more, took}
+-- `weight_sum` meets its contract: at most sixteen numbers of 32 bits are added. Assumes nothing.
+use Rattle.std.proofs.Common.{◌∙◌, ℕ, take, rules}
+use Rattle.std.proofs.iter.runs.Sources.{sums}
+use Rattle.std.proofs.lemmas.Iterator.{YieldsList-from_slice, YieldsList-from_take, YieldsList-from_map}
+use Rattle.std.proofs.lemmas.Iterator.Consumers.{YieldsList-at, sum_by_from_yields_List}
+use Rattle.filter.specs.Share.{weight_sum}
+use Rattle.filter.proofs.Sums.{summed}
 use Rattle.filter.proofs.share.weight_sum.Goals as goal
 
-pub loop-i-init : goal.loop-i-init
-unfolding sum_of
-loop-i-init c = (search rules, search rules, refl, search rules)
-
-pub returns-then-m-i : goal.returns-then-m-i
-unfolding weight_sum
-returns-then-m-i c = c.loop-i.invariant.2 ∙ ap (λ (k : ℕ). sum_of (take k c.args.weights)) (le_antisymm c.loop-i.invariant.1 c.if-m-i.true)
-
-pub overflow_add-sum : goal.overflow_add-sum
-overflow_add-sum c = omega (arith, c.wide-sum.ensures.1)
-
-pub loop-i-preserved : goal.loop-i-preserved
-loop-i-preserved c =
-    let at-loop = c in
-    let l = at-loop.loop-i in
-    let a = at-loop.before.args in
-    (omega arith, omega arith, ap₂ (λ (x y : ℕ). x + y) l.invariant.2 c.wide-sum.ensures.0 ∙ sym (sum_of_more a.weights l.i (subst (λ (n : ℕ). l.i < n) (sym at-loop.before.well_formed.1.0.1.0.1) c.loop-i-test.true)), omega (arith, c.wide-sum.ensures.1))
+pub sum-requires-clause-fits : goal.sum-requires-clause-fits
+sum-requires-clause-fits c = search (rules, sums)
 
 pub returns : goal.returns
 unfolding weight_sum
-returns c = c.loop-i.invariant.2 ∙ ap sum_of (took c.args.weights 16 c.loop-i.i c.args.m c.well_formed.1.0.1.0.1 c.loop-i-test.false c.loop-i.invariant.1)
+returns c =
+    sum_by_from_yields_List (λ (w : ℕ). w) (take c.args.m c.args.weights) c.map.result c.sum.result c.sum.ensures.ran
+    (YieldsList-from_map _ (λ (w : ℕ). w) (YieldsList-at c.map.ensures.source (YieldsList-from_take c.args.m (YieldsList-from_slice c.args.weights (cc)) (cc))) c.map.ensures.closure
+    (λ x r q k. search rules))
+    ∙ summed (take c.args.m c.args.weights)

@@ -1,21 +1,12 @@
--- `state_in_range` meets its contract: after i places the test so far is `every` up to i. Assumes nothing.
-use native.Mathlib.Omega.{arith}
-use mathlib.Core.Path.{refl, ◌∙◌}
-use Rattle.units.specs.Every.{every}
-use Rattle.units.proofs.Every.{every_more}
-use Rattle.floats.specs.Ranges.{state_at}
-use Rattle.floats.proofs.Places.{every_end, state_test}
+-- `state_in_range` meets its contract: all sixteen places, as `every` says it. Assumes nothing.
+use Rattle.std.proofs.Common.{nat_lt, rules}
+use borrow.Author.Tests.{tests}
+use Rattle.floats.specs.Ranges.{no_estimate, estimate_place, state_fits}
+use Rattle.units.proofs.Chains.{placed_all, long_and}
 use Rattle.floats.proofs.ranges.state_in_range.Goals as goal
 
-pub loop-i-init : goal.loop-i-init
-unfolding every
-loop-i-init c = (omega arith, refl)
-
-pub loop-i-preserved : goal.loop-i-preserved
-loop-i-preserved c = (omega arith, every_more (state_at c.args.m c.args.state) _ _ _ c.loop-i.invariant.1 c.estimate_place-fit.ensures)
-
 pub returns : goal.returns
+unfolding state_fits
 returns c =
-    let start = c in
-    every_end (state_at start.args.m start.args.state) _ c.loop-i.i c.loop-i.invariant.1 c.loop-i.invariant.0 c.loop-i-test.false
-    ∙ state_test start.args.m start.args.state start.well_formed.0.1.0.1
+    long_and c.args.state 16 (search rules)
+    (placed_all c.args.state no_estimate 16 c.all.new.self (λ i. estimate_place (nat_lt i c.args.m)) c.all.ensures.ran (cc) (cc) (λ x b q k. search (rules, tests)) (search rules))

@@ -1,21 +1,13 @@
--- `targets_in_range` meets its contract: after i places the test so far is `every` up to i. Assumes nothing.
-use native.Mathlib.Omega.{arith}
-use mathlib.Core.Path.{refl, ◌∙◌}
-use Rattle.units.specs.Every.{every}
-use Rattle.units.proofs.Every.{every_more}
-use Rattle.floats.specs.Ranges.{target_at}
-use Rattle.floats.proofs.Places.{every_end, targets_test}
+-- `targets_in_range` meets its contract: all sixteen places, as `every` says it. Assumes nothing.
+use Rattle.std.proofs.Common.{nat_lt, rules}
+use borrow.Author.Tests.{tests}
+use lib.Ieee.{nan}
+use Rattle.floats.specs.Ranges.{target_place, targets_fit}
+use Rattle.units.proofs.Chains.{placed_all, long_and}
 use Rattle.floats.proofs.ranges.targets_in_range.Goals as goal
 
-pub loop-i-init : goal.loop-i-init
-unfolding every
-loop-i-init c = (omega arith, refl)
-
-pub loop-i-preserved : goal.loop-i-preserved
-loop-i-preserved c = (omega arith, every_more (target_at c.args.m c.args.targets) _ _ _ c.loop-i.invariant.1 c.target_place-fit.ensures)
-
 pub returns : goal.returns
+unfolding targets_fit
 returns c =
-    let start = c in
-    every_end (target_at start.args.m start.args.targets) _ c.loop-i.i c.loop-i.invariant.1 c.loop-i.invariant.0 c.loop-i-test.false
-    ∙ targets_test start.args.m start.args.targets start.well_formed.0.1.0.1
+    long_and c.args.targets 16 (search rules)
+    (placed_all c.args.targets nan 16 c.all.new.self (λ i. target_place (nat_lt i c.args.m)) c.all.ensures.ran (cc) (cc) (λ x b q k. search (rules, tests)) (search rules))

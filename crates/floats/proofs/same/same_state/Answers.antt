@@ -1,19 +1,12 @@
--- `same_state` meets its contract: after i places the test so far is `every` up to i. Assumes nothing.
-use native.Mathlib.Omega.{arith}
-use mathlib.Core.Path.{refl}
-use Rattle.units.specs.Every.{every}
-use Rattle.units.proofs.Every.{every_more}
-use Rattle.floats.specs.Ranges.{same_at, same_state}
-use Rattle.floats.proofs.Places.{every_end}
+-- `same_state` meets its contract: all sixteen places, as `every` says it. Assumes nothing.
+use Rattle.std.proofs.Common.{rules}
+use borrow.Author.Tests.{tests}
+use Rattle.units.proofs.Chains.{beside_all}
+use Rattle.floats.specs.Ranges.{no_estimate, same_estimate, same_state}
 use Rattle.floats.proofs.same.same_state.Goals as goal
-
-pub loop-i-init : goal.loop-i-init
-unfolding every
-loop-i-init c = (omega arith, refl)
-
-pub loop-i-preserved : goal.loop-i-preserved
-loop-i-preserved c = (omega arith, every_more (same_at c.args.a c.args.b) _ _ _ c.loop-i.invariant.1 c.same_estimate-same.ensures)
 
 pub returns : goal.returns
 unfolding same_state
-returns c = every_end (same_at c.args.a c.args.b) _ c.loop-i.i c.loop-i.invariant.1 c.loop-i.invariant.0 c.loop-i-test.false
+returns c =
+    beside_all c.args.a c.args.b no_estimate no_estimate 16 c.all.new.self same_estimate c.all.ensures.ran
+    (cc) (cc) (λ x b q k. search (rules, tests)) (search rules) (search rules)

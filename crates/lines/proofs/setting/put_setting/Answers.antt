@@ -8,14 +8,13 @@ few : (c : After-turn_of-run) → c.turn_of-run.result < 16
 few c = let l = c in let z = l in run_few z.args.settings z.args.k z.requires l.if-k-eq1.false c.if-k-eq2.false _ c.turn_of-run.ensures
 
 pub returns-then-k-eq1 : goal.returns-then-k-eq1
-returns-then-k-eq1 c =
-    let k = c in let z = k in
-    sizes_put z.args.settings z.args.k z.requires _ _ z.args.buf.now _ k.if-k-eq1.true k.four-sizes.ensures.1 c.put_line.ensures
+returns-then-k-eq1 c = let a = c.args in sizes_put a.settings a.k c.requires _ _ a.buf.now c.if-k-eq1.true c.put_line.ensures
 
 pub returns-then-k-eq2 : goal.returns-then-k-eq2
 returns-then-k-eq2 c =
-    let k = c in let l = k in let z = l in
-    filter_put z.args.settings z.args.k z.requires _ _ z.args.buf.now _ l.if-k-eq1.false k.if-k-eq2.true k.four-filter.ensures.1 c.put_line-then-k-eq2.ensures
+    let a = c.args in
+    filter_put a.settings a.k c.requires _ _ a.buf.now c.if-k-eq1.false c.if-k-eq2.true
+    (rw (c.from.ensures, c.from-then-k-eq2.ensures, c.from-then-k-eq2-2.ensures) at c.put_line-then-k-eq2.ensures)
 
 pub put_run-requires : goal.put_run-requires
 put_run-requires c =

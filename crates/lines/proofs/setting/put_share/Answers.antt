@@ -8,4 +8,4 @@ pub returns : goal.returns
 returns c =
     let a = c.args in
     rw (← share_is a.factor a.weight)
-    (tabs_put a.buf.now _ _ (written Factor a.factor) (written Decimal a.weight) a.at _ _ c.put_field-next.ensures c.put_field.ensures)
+    (tabs_put a.buf.now _ _ (written Factor a.factor) (written Decimal a.weight) a.at _ _ (rw c.from.ensures at c.put_field-next.ensures) (rw c.from-2.ensures at c.put_field.ensures))

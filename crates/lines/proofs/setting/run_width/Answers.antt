@@ -9,7 +9,8 @@ short : (c : After-width-last) → (c.width-first.result ≤ 16) × (c.width-thi
 short c = (rw c.width-first.ensures (written_short _ _), rw c.width-third.ensures (written_short _ _), rw c.width-last.ensures (written_short _ _))
 
 pub returns : goal.returns
-returns c = omega (arith, short (goal.at.returns c).After-width-last, c.width-first.ensures, c.width-third.ensures, c.width-last.ensures)
+returns c =
+    omega (arith, short (goal.at.returns c).After-width-last, c.width-first.ensures, rw c.from.ensures at c.width-third.ensures, rw c.from-2.ensures at c.width-last.ensures)
 
 pub overflow_add-result : goal.overflow_add-result
 overflow_add-result c = omega (arith, short (goal.at.overflow_add-result c).After-width-last)

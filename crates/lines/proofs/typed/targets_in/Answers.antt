@@ -1,41 +1,15 @@
 -- `targets_in` meets its contract. Assumes nothing.
-use native.Mathlib.Omega.{arith}
-use lib.ListN.{replicate}
-use Rattle.units.proofs.Tab.{fill_more}
-use Rattle.lines.proofs.Columns.{fill_start, fill_done}
+use borrow.Author.Rules.{rules}
+use borrow.Author.Tests.{tests}
 use lib.Ieee.{nan}
-use Rattle.floats.specs.Bits.{nought}
-use Rattle.lines.proofs.Making.{target_made, target_left}
+use Rattle.units.specs.Pick.{pick}
+use Rattle.units.proofs.Counted.{made_at}
+use Rattle.lines.specs.Values.{target_in}
+use Rattle.lines.proofs.Columns.{is_column}
 use Rattle.lines.proofs.typed.targets_in.Goals as goal
 
-pub loop-i-preserved : goal.loop-i-preserved
-loop-i-preserved c =
-    let t = c in let l = t.loop-i in let a = t.args in
-    (omega arith, l.invariant.1, fill_more _ nan 16 (replicate 16 nought) l.out l.i _ l.invariant.2 (omega arith) (target_made a.n _ l.i a.v.now _ l.invariant.1 t.loop-i-test.true c.float_of.ensures))
-
 pub returns : goal.returns
-returns c = let l = c.loop-i in let a = c.args in fill_done _ nan nought l.out l.i l.invariant.2 (target_left a.n _ l.i a.v.now l.invariant.1 c.loop-i-test.false)
-
-pub loop-i-init : goal.loop-i-init
-loop-i-init c = (omega arith, c.runs_of-runs.ensures, fill_start _ nan nought)
-
-pub overflow_add-target : goal.overflow_add-target
-overflow_add-target c = omega arith
-
-pub offset_bounds-v-i : goal.offset_bounds-v-i
-offset_bounds-v-i c = omega arith
-
-pub bounds-v-i : goal.bounds-v-i
-bounds-v-i c = omega arith
-
-pub offset_bounds-out-i : goal.offset_bounds-out-i
-offset_bounds-out-i c = omega arith
-
-pub bounds-out-i : goal.bounds-out-i
-bounds-out-i c = omega arith
-
-pub overflow_add-i : goal.overflow_add-i
-overflow_add-i c = omega arith
-
-pub loop-i-smaller : goal.loop-i-smaller
-loop-i-smaller c = omega arith
+unfolding pick
+returns c =
+    let a = c.args in let r = c.from_fn.ensures.items in
+    is_column _ nan 16 _ r.long (made_at _ _ (target_in a.n a.v.now) (λ i y q k. search (rules, tests)) nan _ 16 r)

@@ -1,9 +1,10 @@
 -- `is_enough_for` meets its contract. Assumes nothing.
+use lib.ListN.{length}
 use Rattle.lines.proofs.Putting.{room_sure, room_counted}
 use Rattle.lines.proofs.write.is_enough_for.Goals as goal
 
 pub returns : goal.returns
-returns c = let s = c in room_counted s.args.kind s.args.v.now s.args.n s.args.len _ c.widths.ensures.0
+returns c = let a = c.args in room_counted a.kind a.numbers.now (length a.numbers.now) a.len _ c.widths.ensures.0
 
-pub returns-then-n-len : goal.returns-then-n-len
-returns-then-n-len c = let a = c.args in room_sure a.kind a.v.now a.n a.len c.if-n-len.true
+pub returns-then-numbers-len : goal.returns-then-numbers-len
+returns-then-numbers-len c = let a = c.args in room_sure a.kind a.numbers.now (length a.numbers.now) a.len c.if-numbers-len.true

@@ -1,5 +1,5 @@
 -- `put_numbers` meets its contract. Assumes nothing.
-use Prim.Native.Nat.{◌+◌, ◌-◌, ◌≤◌}
+use Prim.Native.Nat.{◌+◌}
 use mathlib.Core.Path.{◌≡◌}
 use lib.ListN.{length}
 use lib.Seq.{sets}
@@ -8,7 +8,4 @@ use Rattle.lines.specs.Writing.{texts_to}
 use Rattle.lines.proofs.write.put_numbers.Given as goal
 
 abbrev pub invariant-loop-k : goal.invariant-loop-k
-invariant-loop-k l = (l.k ≤ l.n) × (length l.buf ≡ length l.initial.buf) × (l.at ≡ 1 + length (tabbed (texts_to l.kind l.v l.k))) × (l.buf ≡ sets l.initial.buf 1 (tabbed (texts_to l.kind l.v l.k)))
-
-abbrev pub decreases-loop-k : goal.decreases-loop-k
-decreases-loop-k l = l.n - l.k
+invariant-loop-k l = (l.at ≡ 1 + length (tabbed (texts_to l.kind l.numbers l.k))) × (l.buf ≡ sets l.initial.buf 1 (tabbed (texts_to l.kind l.numbers l.k)))

@@ -1,5 +1,5 @@
 -- `widths` meets its contract. Assumes nothing.
-use Prim.Native.Nat.{◌*◌, ◌-◌, ◌≤◌}
+use Prim.Native.Nat.{◌*◌, ◌≤◌}
 use mathlib.Core.Path.{◌≡◌}
 use lib.ListN.{length}
 use Rattle.fields.specs.Text.{tabbed}
@@ -7,7 +7,4 @@ use Rattle.lines.specs.Writing.{texts_to}
 use Rattle.lines.proofs.write.widths.Given as goal
 
 abbrev pub invariant-loop-k : goal.invariant-loop-k
-invariant-loop-k l = (l.k ≤ l.n) × (l.sum ≡ length (tabbed (texts_to l.kind l.v l.k))) × (l.sum ≤ 17 * l.k)
-
-abbrev pub decreases-loop-k : goal.decreases-loop-k
-decreases-loop-k l = l.n - l.k
+invariant-loop-k l = (l.sum ≡ length (tabbed (texts_to l.kind l.numbers l.k))) × (l.sum ≤ 17 * l.k)

@@ -3,10 +3,10 @@ use Rattle.units.proofs.Picked.{along}
 use Rattle.plan.specs.Plan.{afterwards}
 use Rattle.plan.proofs.planned.sending_after.Goals as goal
 
-pub returns-in-Nothing : goal.returns-in-Nothing
+pub returns-in-None : goal.returns-in-None
 unfolding afterwards
-returns-in-Nothing c = along (afterwards c.args.effect c.args.head) c.in-Nothing.is c.sending.ensures
+returns-in-None c = along (afterwards c.args.effect c.args.head) c.in-None.is c.sending.ensures
 
-pub returns-in-One : goal.returns-in-One
+pub returns-in-Some : goal.returns-in-Some
 unfolding afterwards
-returns-in-One c = along (afterwards c.args.effect c.args.head) c.in-One.is c.sending_both.ensures
+returns-in-Some c = along (afterwards c.args.effect c.args.head) c.in-Some.is c.sending_both.ensures

@@ -4,24 +4,24 @@ use Rattle.session.proofs.Writes.{puts_same, one_text}
 use Rattle.session.specs.Feeding.{put_text}
 use Rattle.session.proofs.answer.put_answer.Goals as goal
 
-pub returns-in-Nothing : goal.returns-in-Nothing
+pub returns-in-None : goal.returns-in-None
 unfolding put_text
-returns-in-Nothing c = let a = c.args in puts_same a.out.now (ap (put_text a.numbers a.c a.second a.verdict) c.in-Nothing.is) c.put_verdict.ensures
+returns-in-None c = let a = c.args in puts_same a.out.now (ap (put_text a.numbers a.c a.second a.verdict) c.in-None.is) c.put_verdict.ensures
 
-pub returns-in-Taken : goal.returns-in-Taken
-returns-in-Taken c =
+pub returns-in-Ok : goal.returns-in-Ok
+returns-in-Ok c =
     let a = c.args in
     let d = c in
-    puts_same a.out.now (one_text a.numbers a.c _ d.in-One.is d.in-Nothing-second.is d.in-Taken.is) c.put_sent.ensures
+    puts_same a.out.now (one_text a.numbers a.c _ d.in-Some.is d.in-None-second.is d.in-Ok.is) c.put_sent.ensures
 
-pub returns-in-Refused : goal.returns-in-Refused
+pub returns-in-Err : goal.returns-in-Err
 unfolding put_text
-returns-in-Refused c =
+returns-in-Err c =
     let a = c.args in
-    puts_same a.out.now (ap (put_text a.numbers a.c a.second a.verdict) c.in-One.is) c.put_both.ensures
+    puts_same a.out.now (ap (put_text a.numbers a.c a.second a.verdict) c.in-Some.is) c.put_both.ensures
 
-pub returns-in-One-second : goal.returns-in-One-second
+pub returns-in-Some-second : goal.returns-in-Some-second
 unfolding put_text
-returns-in-One-second c =
+returns-in-Some-second c =
     let a = c.args in
-    puts_same a.out.now (ap (put_text a.numbers a.c a.second a.verdict) c.in-One.is) c.put_both-in-One-second.ensures
+    puts_same a.out.now (ap (put_text a.numbers a.c a.second a.verdict) c.in-Some.is) c.put_both-in-Some-second.ensures

@@ -4,10 +4,10 @@ use Rattle.session.proofs.Writes.{puts_same}
 use Rattle.session.specs.Feeding.{rest_text}
 use Rattle.session.proofs.answer.put_rest.Goals as goal
 
-pub returns-in-Nothing : goal.returns-in-Nothing
+pub returns-in-None : goal.returns-in-None
 unfolding rest_text
-returns-in-Nothing c = let a = c.args in puts_same a.out.now (ap (rest_text a.numbers a.c a.verdict) c.in-Nothing.is) c.put_verdict.ensures
+returns-in-None c = let a = c.args in puts_same a.out.now (ap (rest_text a.numbers a.c a.verdict) c.in-None.is) c.put_verdict.ensures
 
-pub returns-in-One : goal.returns-in-One
+pub returns-in-Some : goal.returns-in-Some
 unfolding rest_text
-returns-in-One c = let a = c.args in puts_same a.out.now (ap (rest_text a.numbers a.c a.verdict) c.in-One.is) c.put_sent.ensures
+returns-in-Some c = let a = c.args in puts_same a.out.now (ap (rest_text a.numbers a.c a.verdict) c.in-Some.is) c.put_sent.ensures

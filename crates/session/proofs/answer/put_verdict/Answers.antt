@@ -4,10 +4,10 @@ use Rattle.session.proofs.Writes.{puts_none, puts_same}
 use Rattle.session.specs.Turn.{verdict_text}
 use Rattle.session.proofs.answer.put_verdict.Goals as goal
 
-pub returns-in-Taken : goal.returns-in-Taken
+pub returns-in-Ok : goal.returns-in-Ok
 unfolding verdict_text
-returns-in-Taken c = let a = c.args in puts_same a.out.now (ap verdict_text c.in-Taken.is) (puts_none a.out.now)
+returns-in-Ok c = let a = c.args in puts_same a.out.now (ap verdict_text c.in-Ok.is) (puts_none a.out.now)
 
-pub returns-in-Refused : goal.returns-in-Refused
+pub returns-in-Err : goal.returns-in-Err
 unfolding verdict_text
-returns-in-Refused c = let a = c.args in puts_same a.out.now (ap verdict_text c.in-Refused.is) c.write_refusal.ensures
+returns-in-Err c = let a = c.args in puts_same a.out.now (ap verdict_text c.in-Err.is) c.write_refusal.ensures

@@ -1,8 +1,8 @@
 -- `unended_line` meets its contract. Assumes nothing.
+use Rattle.std.specs.Prelude.{Err}
 use mathlib.Core.Path.{refl, ap}
 use borrow.Author.Tests.{eq-eqb, ne_eqb}
 use Rattle.units.proofs.Picked.{by_yes, by_no}
-use Rattle.units.specs.declared.refusal.Verdict.TheVariants.{Refused}
 use Rattle.session.specs.Feeding.{unended_line}
 use Rattle.session.proofs.feed.unended_line.Goals as goal
 
@@ -12,4 +12,4 @@ returns-then-n-eq0 c = by_yes _ (eq-eqb _ _ c.if-n-eq0.true) refl
 
 pub returns : goal.returns
 unfolding unended_line
-returns c = by_no _ (ne_eqb _ _ c.if-n-eq0.false) (ap Refused c.unended.ensures)
+returns c = by_no _ (ne_eqb _ _ c.if-n-eq0.false) (ap Err c.unended.ensures)

@@ -10,4 +10,4 @@ returns-in_default-head c = no_reading _ _ _
 
 pub returns : goal.returns
 returns c =
-    reading_added _ _ _ c.in-Reading.label c.in-Reading.run' c.in-Reading.raw c.in-Taken.is c.in-Reading.is c.reading_change.ensures
+    reading_added _ _ _ c.in-Reading.label c.in-Reading.run' c.in-Reading.raw c.in-Ok.is c.in-Reading.is c.reading_change.ensures

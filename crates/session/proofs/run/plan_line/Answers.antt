@@ -3,10 +3,10 @@ use Rattle.units.proofs.Picked.{along}
 use Rattle.session.specs.Serving.{plan_line}
 use Rattle.session.proofs.run.plan_line.Goals as goal
 
-pub returns-in-Taken : goal.returns-in-Taken
+pub returns-in-Ok : goal.returns-in-Ok
 unfolding plan_line
-returns-in-Taken c = along (plan_line _ _ _ _) c.in-Taken.is c.plan.ensures
+returns-in-Ok c = along (plan_line _ _ _ _) c.in-Ok.is c.plan.ensures
 
-pub returns-in-Refused : goal.returns-in-Refused
+pub returns-in-Err : goal.returns-in-Err
 unfolding plan_line
-returns-in-Refused c = along (plan_line _ _ _ _) c.in-Refused.is c.refusal.ensures
+returns-in-Err c = along (plan_line _ _ _ _) c.in-Err.is c.refusal.ensures

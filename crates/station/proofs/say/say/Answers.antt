@@ -6,4 +6,4 @@ use Rattle.station.proofs.say.say.Goals as goal
 pub loop-at-smaller : goal.loop-at-smaller
 loop-at-smaller g c =
     let w = writes_less c.write_some-put.result c.args.n c.loop-at.at c.loop-at.left (search rules) (search rules) in
-    omega (arith, w, c.writes_left-left.ensures, c.moved-at.ensures)
+    omega (arith, w, c.writes_left-left.ensures, c.unwrap_or-at.ensures)

@@ -5,8 +5,8 @@ use Rattle.store.proofs.RunLines.{runs_top_lem}
 use Rattle.store.proofs.Putting.{one_put}
 use Rattle.store.proofs.put.put_one.Goals as goal
 
-pub returns-in-Refused : goal.returns-in-Refused
-returns-in-Refused c = let w = c in one_never _ _ _ _ _ w.requires w.write_setting.ensures _ c.in-Refused.is
+pub returns-in-Err : goal.returns-in-Err
+returns-in-Err c = let w = c in one_never _ _ _ _ _ w.requires w.write_setting.ensures _ c.in-Err.is
 
 pub overflow_add-i : goal.overflow_add-i
 overflow_add-i c = omega (arith, runs_top_lem _ c.requires.0, c.requires.1)
@@ -14,5 +14,5 @@ overflow_add-i c = omega (arith, runs_top_lem _ c.requires.0, c.requires.1)
 pub overflow_cast-i : goal.overflow_cast-i
 overflow_cast-i c = omega (arith, runs_top_lem _ c.requires.0, c.requires.1)
 
-pub returns-in-Done : goal.returns-in-Done
-returns-in-Done c = one_put _ _ _ _ _ c.requires c.write_setting.ensures _ c.in-Done.is
+pub returns-in-Ok : goal.returns-in-Ok
+returns-in-Ok c = one_put _ _ _ _ _ c.requires c.write_setting.ensures _ c.in-Ok.is

@@ -1,31 +1,19 @@
--- `bad_serial` meets its contract: the first i serials are fit. Assumes nothing.
-use mathlib.Core.Path.{sym, ap, ◌∙◌}
-use mathlib.Core.Bool.{not}
+-- `bad_serial` meets its contract. Assumes nothing.
+use mathlib.Core.Path.{◌≡◌}
+use mathlib.Core.Bool.{true, not}
+use Rattle.std.proofs.Common.{rules, tests, ◌∙◌}
+use Rattle.std.proofs.lemmas.Iterator.{YieldsList-from_slice}
+use Rattle.std.proofs.lemmas.Iterator.Search.{position_from_yields_List}
 use native.Mathlib.Omega.{arith}
-use Rattle.store.proofs.Firsts.{first_start, first_more, first_found, first_end}
+use lib.ListN.{length, take}
+use Rattle.units.proofs.Scan.{length_mapped}
+use Rattle.message.specs.Settings.{certificate_fits, no_certificate}
+use Rattle.store.proofs.Firsts.{place_taken}
 use Rattle.store.proofs.stored.bad_serial.Goals as goal
 
-pub returns-then-not-in_range : goal.returns-then-not-in_range
-returns-then-not-in_range c =
-    let l = c.loop-i in
-    first_found _ _ _ l.invariant.1 (sym (ap not c.in_range.ensures) ∙ (ap not c.if-not-in_range.true)) c.loop-i-test.true
-
-pub loop-i-preserved : goal.loop-i-preserved
-loop-i-preserved c =
-    let l = c.loop-i in let t = c.loop-i-test.true in
-    (omega arith, first_more _ _ l.invariant.1 (sym (ap not c.in_range.ensures) ∙ (ap not c.if-not-in_range.false)))
-
-pub loop-i-init : goal.loop-i-init
-loop-i-init c = (omega arith, first_start _)
-
-pub bounds-serials-i : goal.bounds-serials-i
-bounds-serials-i c = omega arith
-
-pub overflow_add-i : goal.overflow_add-i
-overflow_add-i c = omega arith
-
-pub loop-i-smaller : goal.loop-i-smaller
-loop-i-smaller c = omega arith
-
 pub returns : goal.returns
-returns c = first_end _ _ _ c.loop-i.invariant.1 c.loop-i.invariant.0 c.loop-i-test.false
+returns c =
+    let s = c.args.serials in
+    let long : length s.each ≡ 16 = search (c.well_formed, length_mapped) in
+    position_from_yields_List (λ x. not (certificate_fits true x)) _ _ _ c.position.ensures.ran (YieldsList-from_slice (take s.m s.each) cc) (λ x b q k. search (rules, tests))
+    ∙ place_taken (λ x. not (certificate_fits true x)) s.each no_certificate s.m (omega (arith, c.requires, long))

@@ -1,32 +1,13 @@
--- `seats_in_range` meets its contract: after i seats the test so far is `every` up to i. Assumes nothing.
-use native.Mathlib.Omega.{arith}
-use mathlib.Core.Path.{◌≡◌, refl, ap, ◌∙◌}
-use lib.ListN.{length}
-use borrow.Author.Tests.{eq-eqb}
-use Rattle.units.specs.Every.{every}
-use Rattle.units.proofs.Every.{every_more}
-use Rattle.vote.specs.Vote.{seat_at, seats_fit}
+-- `seats_in_range` meets its contract: all seven seats, as `every` says it. Assumes nothing.
+use Rattle.std.proofs.Common.{nat_lt, rules}
+use borrow.Author.Tests.{tests}
+use Rattle.units.proofs.Chains.{placed_all, long_and}
+use Rattle.vote.specs.Vote.{nobody, seat_fits, seats_fit}
 use Rattle.vote.proofs.votes.seats_in_range.Goals as goal
-
-pub loop-i-init : goal.loop-i-init
-unfolding every
-loop-i-init c = (omega arith, refl)
-
-pub loop-i-preserved : goal.loop-i-preserved
-loop-i-preserved c =
-    let a = c.args in
-    (omega arith, every_more (seat_at a.group a.label a.seats) _ _ _ c.loop-i.invariant.1 c.in_range-fit.ensures)
 
 pub returns : goal.returns
 unfolding seats_fit
 returns c =
     let a = c.args in
-    let e : c.loop-i.i ≡ 7 = omega arith in
-    let long : length a.seats ≡ 7 = omega arith in
-    rw (eq-eqb (length a.seats) 7 long) (c.loop-i.invariant.1 ∙ ap (every (seat_at a.group a.label a.seats)) e)
-
-pub overflow_add-i : goal.overflow_add-i
-overflow_add-i c = omega arith
-
-pub loop-i-smaller : goal.loop-i-smaller
-loop-i-smaller c = omega arith
+    long_and a.seats 7 (search rules)
+    (placed_all a.seats nobody 7 c.all.new.self (λ i s. seat_fits (nat_lt i a.group.g) a.group.m a.label s.ballot) c.all.ensures.ran (cc) (cc) (λ x b q k. search (rules, tests)) (search rules))

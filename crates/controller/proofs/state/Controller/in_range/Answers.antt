@@ -2,7 +2,7 @@
 use mathlib.Core.Path.{ap, ap₂, ◌∙◌}
 use mathlib.Core.Bool.{◌&&◌}
 use lib.Dec.{ltb}
-use Rattle.vote.specs.declared.votes.Ballot.{Ballot}
+use Rattle.vote.specs.Digest.{Ballot}
 use Rattle.plan.specs.declared.brief.Brief.{Brief}
 use Rattle.controller.specs.State.{phase_fits, controller_fits}
 use Rattle.controller.proofs.state.Controller.in_range.Goals as goal

@@ -1,6 +1,7 @@
 -- `Settling::take_factor` meets its contract. Assumes nothing.
+use mathlib.Core.Path.{ap, ◌∙◌}
 use native.Mathlib.Omega.{arith}
-use Rattle.lines.specs.Settling.{settle_factor}
+use Rattle.lines.specs.Settling.{settle_factor, stopped}
 use Rattle.lines.proofs.Settlings.{Judged, judged}
 use Rattle.lines.proofs.settle.Settling.take_factor.Goals as goal
 use Rattle.lines.proofs.settle.Settling.take_factor.Goals.{After-read_at}
@@ -14,16 +15,12 @@ field k =
 pub take_weight-requires : goal.take_weight-requires
 take_weight-requires c =
     let k = c in let p = k.requires in
-    (p.0, p.1, p.2, p.3, p.4, p.5, p.6, (field (goal.at.take_weight-requires c).After-read_at).more c.in-Value.is)
+    (p.0, p.1, p.2, p.3, p.4, p.5, p.6, (field (goal.at.take_weight-requires c).After-read_at).more c.in-Ok.is)
 
-pub returns-in-Value : goal.returns-in-Value
+pub returns-in-Ok : goal.returns-in-Ok
 unfolding settle_factor
-returns-in-Value c = (field (goal.at.returns-in-Value c).After-read_at).after _ c.in-Value.is c.take_weight.ensures
+returns-in-Ok c = (field (goal.at.returns-in-Ok c).After-read_at).after _ c.in-Ok.is c.take_weight.ensures
 
-pub returns-in-Form : goal.returns-in-Form
+pub returns-in-Err : goal.returns-in-Err
 unfolding settle_factor
-returns-in-Form c = (field (goal.at.returns-in-Form c).After-read_at).after _ c.in-Form.is c.stop.ensures
-
-pub returns-in-Range : goal.returns-in-Range
-unfolding settle_factor
-returns-in-Range c = (field (goal.at.returns-in-Range c).After-read_at).after _ c.in-Range.is c.stop-in-Range.ensures
+returns-in-Err c = (field (goal.at.returns-in-Err c).After-read_at).after _ c.in-Err.is (c.stop.ensures ∙ ap (stopped _) c.from.ensures)

@@ -9,7 +9,7 @@ use mathlib.Core.Bool.{true}
 use lib.ListN.{length}
 use Rattle.fields.specs.Text.{first_field, later_fields}
 use Rattle.lines.specs.declared.kind.Kind.TheVariants.{Run}
-use Rattle.lines.specs.Settling.{is_kind, settle_run}
+use Rattle.lines.specs.Settling.{is_kind, settle_run, stopped}
 use Rattle.lines.proofs.Settlings.{Judged, judged, was_kind, was_not, kind_start}
 use Rattle.lines.proofs.Openings.{fields_are}
 use Rattle.lines.proofs.settle.Settling.take_run.Goals as goal
@@ -29,7 +29,7 @@ field k =
 pub take_certificate-requires : goal.take_certificate-requires
 take_certificate-requires c =
     let k = c in let p = k.requires in
-    (p.0, p.1, (tests (goal.at.take_certificate-requires c).After-read_at).1, (field (goal.at.take_certificate-requires c).After-read_at).more c.in-Value.is)
+    (p.0, p.1, (tests (goal.at.take_certificate-requires c).After-read_at).1, (field (goal.at.take_certificate-requires c).After-read_at).more c.in-Ok.is)
 
 pub returns-then-not-is_kind : goal.returns-then-not-is_kind
 unfolding settle_run
@@ -40,14 +40,10 @@ unfolding settle_run
 returns-then-fields-ne4 c = let l = c in by_yes _ (was_kind l.is_kind.ensures (ap not l.if-not-is_kind.false))
     (by_no _ (ne_eqb _ _ (λ q. c.if-fields-ne4.true (fields_are _ _ l.requires.2 ∙ q))) c.stop-then-fields-ne4.ensures)
 
-pub returns-in-Value : goal.returns-in-Value
+pub returns-in-Ok : goal.returns-in-Ok
 unfolding settle_run
-returns-in-Value c = let k = c in by_yes _ (tests (goal.at.returns-in-Value c).After-read_at).0 (by_yes _ (eq-eqb _ _ (tests (goal.at.returns-in-Value c).After-read_at).1) ((field (goal.at.returns-in-Value c).After-read_at).after _ c.in-Value.is c.take_certificate.ensures))
+returns-in-Ok c = let k = c in by_yes _ (tests (goal.at.returns-in-Ok c).After-read_at).0 (by_yes _ (eq-eqb _ _ (tests (goal.at.returns-in-Ok c).After-read_at).1) ((field (goal.at.returns-in-Ok c).After-read_at).after _ c.in-Ok.is c.take_certificate.ensures))
 
-pub returns-in-Form : goal.returns-in-Form
+pub returns-in-Err : goal.returns-in-Err
 unfolding settle_run
-returns-in-Form c = let k = c in by_yes _ (tests (goal.at.returns-in-Form c).After-read_at).0 (by_yes _ (eq-eqb _ _ (tests (goal.at.returns-in-Form c).After-read_at).1) ((field (goal.at.returns-in-Form c).After-read_at).after _ c.in-Form.is c.stop-in-Form.ensures))
-
-pub returns-in-Range : goal.returns-in-Range
-unfolding settle_run
-returns-in-Range c = let k = c in by_yes _ (tests (goal.at.returns-in-Range c).After-read_at).0 (by_yes _ (eq-eqb _ _ (tests (goal.at.returns-in-Range c).After-read_at).1) ((field (goal.at.returns-in-Range c).After-read_at).after _ c.in-Range.is c.stop-in-Range.ensures))
+returns-in-Err c = let k = c in by_yes _ (tests (goal.at.returns-in-Err c).After-read_at).0 (by_yes _ (eq-eqb _ _ (tests (goal.at.returns-in-Err c).After-read_at).1) ((field (goal.at.returns-in-Err c).After-read_at).after _ c.in-Err.is (c.stop-in-Err.ensures ∙ ap (stopped _) c.from.ensures)))

@@ -19,14 +19,8 @@ returns c =
     let k = c in let l = k in
     c.take_run.ensures ∙ sym (run_text _ _ l.if-line-eq1.false l.if-line-eq2.false (omega (arith, c.if-runs_of-turn_of.false, k.turn_of.ensures, k.runs_of.ensures)))
 
-pub take_sizes-requires : goal.take_sizes-requires
-take_sizes-requires c = (omega (arith, c.if-line-eq1.true), c.requires)
-
 pub returns-then-line-eq1 : goal.returns-then-line-eq1
 returns-then-line-eq1 c = c.take_sizes.ensures ∙ sym (sizes_text _ _ c.if-line-eq1.true)
-
-pub take_filter-requires : goal.take_filter-requires
-take_filter-requires c = (omega (arith, c.if-line-eq2.true), c.requires)
 
 pub returns-then-line-eq2 : goal.returns-then-line-eq2
 returns-then-line-eq2 c = c.take_filter.ensures ∙ sym (filter_text _ _ c.if-line-eq2.true)

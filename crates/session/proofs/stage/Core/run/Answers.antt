@@ -4,8 +4,8 @@ use Rattle.session.proofs.Turns.{hears_taken, hears_refused}
 use Rattle.session.specs.Feeding.{advancing}
 use Rattle.session.proofs.stage.Core.run.Goals as goal
 
-pub returns-in-Refused : goal.returns-in-Refused
-returns-in-Refused c = let a = c.args in wrote_same a.out.now (hears_refused (advancing a.self) a.self a.line.message _ c.in-Refused.is) c.refuse.ensures
+pub returns-in-Err : goal.returns-in-Err
+returns-in-Err c = let a = c.args in wrote_same a.out.now (hears_refused (advancing a.self) a.self a.line.message _ c.in-Err.is) c.refuse.ensures
 
-pub returns-in-Taken : goal.returns-in-Taken
-returns-in-Taken c = let a = c.args in wrote_same a.out.now (hears_taken (advancing a.self) a.self a.line.message c.in-Taken.is) c.advance.ensures
+pub returns-in-Ok : goal.returns-in-Ok
+returns-in-Ok c = let a = c.args in wrote_same a.out.now (hears_taken (advancing a.self) a.self a.line.message c.in-Ok.is) c.advance.ensures

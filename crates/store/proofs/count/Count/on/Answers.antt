@@ -1,23 +1,12 @@
--- `Count::on` meets its contract: the count so far goes on over what is left to the count of the whole. Assumes nothing.
-use native.Mathlib.Omega.{arith}
-use mathlib.Core.Path.{refl}
-use Rattle.store.proofs.Counted.{counted_again, counted_end}
+-- `Count::on` meets its contract. Assumes nothing.
+use Rattle.std.proofs.Common.{rules, tests, ◌∙◌}
+use Rattle.std.proofs.lemmas.Iterator.{YieldsList-from_slice}
+use Rattle.std.proofs.lemmas.Iterator.Consumers.{fold_from_yields_List}
+use Rattle.store.specs.Kept.{count_byte}
+use Rattle.store.proofs.Counted.{counted_fold}
 use Rattle.store.proofs.count.Count.on.Goals as goal
 
-pub loop-i-preserved : goal.loop-i-preserved
-loop-i-preserved c = counted_again _ _ _ _ c.loop-i.invariant _ c.loop-i-test.true c.byte-count.ensures
-
 pub returns : goal.returns
-returns c = counted_end _ _ _ _ c.loop-i.invariant c.loop-i-test.false
-
-pub loop-i-init : goal.loop-i-init
-loop-i-init c = refl
-
-pub bounds-bytes-i : goal.bounds-bytes-i
-bounds-bytes-i c = omega arith
-
-pub overflow_add-i : goal.overflow_add-i
-overflow_add-i c = omega arith
-
-pub loop-i-smaller : goal.loop-i-smaller
-loop-i-smaller c = omega arith
+returns c =
+    fold_from_yields_List _ count_byte _ _ c.fold.ensures.ran (YieldsList-from_slice c.args.bytes.now cc) (λ a x b q k. search (rules, tests))
+    ∙ counted_fold c.args.self c.args.bytes.now

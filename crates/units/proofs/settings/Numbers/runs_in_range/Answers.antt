@@ -1,17 +1,12 @@
--- One place more at each turn, and all sixteen at the end. Assumes nothing.
-use Rattle.std.proofs.Common.{◌≡◌, refl, ap, ◌∙◌, arith}
-use Rattle.units.specs.Every.{every}
-use Rattle.units.specs.Settings.{place_at, runs_fit}
-use Rattle.units.proofs.Every.{every_more}
+-- All sixteen places, as `every` says it. Assumes nothing.
+use Rattle.std.proofs.Common.{nat_lt, rules}
+use borrow.Author.Tests.{tests}
+use Rattle.units.specs.Settings.{place_fits, runs_fit}
+use Rattle.units.proofs.Chains.{beside_placed_all}
 use Rattle.units.proofs.settings.Numbers.runs_in_range.Goals as goal
-
-pub loop-i-init : goal.loop-i-init
-unfolding every
-loop-i-init c = (omega arith, refl)
-
-pub loop-i-preserved : goal.loop-i-preserved
-loop-i-preserved c = (omega arith, every_more (place_at c.args.self) _ _ _ c.loop-i.invariant.1 c.place_in_range-fit.ensures)
 
 pub returns : goal.returns
 unfolding runs_fit
-returns c = let e : c.loop-i.i ≡ 16 = omega arith in c.loop-i.invariant.1 ∙ ap (every (place_at c.args.self)) e
+returns c =
+    beside_placed_all c.args.self.factors c.args.self.weights 0 0 16 c.all.new.self (λ i. place_fits (nat_lt i c.args.self.group.m)) c.all.ensures.ran
+    (cc) (cc) (cc) (λ x b q k. search (rules, tests)) (search rules) (search rules)

@@ -2,10 +2,10 @@
 use Rattle.vote.specs.Vote.{seat_fits}
 use Rattle.vote.proofs.votes.Seat.in_range.Goals as goal
 
-pub returns-in-Missing : goal.returns-in-Missing
+pub returns-in-None : goal.returns-in-None
 unfolding seat_fits
-returns-in-Missing c = cc
+returns-in-None c = cc
 
-pub returns-in-Cast : goal.returns-in-Cast
+pub returns-in-Some : goal.returns-in-Some
 unfolding seat_fits
-returns-in-Cast c = cc
+returns-in-Some c = cc

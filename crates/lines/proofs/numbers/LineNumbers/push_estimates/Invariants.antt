@@ -1,0 +1,9 @@
+-- `LineNumbers::push_estimates` meets its contract. Assumes nothing.
+use mathlib.Core.Path.{◌≡◌}
+use mathlib.Core.List.{◌++◌}
+use Rattle.lines.specs.Lists.{joined}
+use Rattle.lines.specs.Values.{floats_of}
+use Rattle.lines.proofs.numbers.LineNumbers.push_estimates.Given as goal
+
+abbrev pub invariant-loop-e : goal.invariant-loop-e
+invariant-loop-e l = l.self ≡ l.initial.self ++ joined (floats_of l.estimates) l.e-index

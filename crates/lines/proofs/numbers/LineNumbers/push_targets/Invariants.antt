@@ -1,0 +1,9 @@
+-- `LineNumbers::push_targets` meets its contract. Assumes nothing.
+use mathlib.Core.Path.{◌≡◌}
+use mathlib.Core.List.{◌++◌}
+use Rattle.lines.specs.Lists.{joined}
+use Rattle.lines.specs.Values.{target_of}
+use Rattle.lines.proofs.numbers.LineNumbers.push_targets.Given as goal
+
+abbrev pub invariant-loop-target : goal.invariant-loop-target
+invariant-loop-target l = l.self ≡ l.initial.self ++ joined (target_of l.targets) l.target-index
