@@ -4,8 +4,7 @@ use mathlib.Core.Path.{◌≡◌, refl, ap, subst}
 use mathlib.Core.Bool.{Bool, true, false, ◌&&◌}
 use mathlib.Core.List.{List, [], ◌∷◌}
 use Rattle.units.proofs.Every.{no_way, and_left, and_right}
-use Rattle.vote.specs.Digest.{Decision}
-use Rattle.vote.specs.Digest.{same}
+use Rattle.vote.specs.Digest.{Decision, same}
 use Rattle.vote.specs.Vote.{Answers}
 use Rattle.vote.specs.Decision.{decision}
 use Rattle.vote.proofs.Order.{same_true}

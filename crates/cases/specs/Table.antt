@@ -6,10 +6,9 @@ use Rattle.units.specs.declared.estimate.Estimate.{Estimate}
 use Rattle.floats.specs.Bits.{of_whole}
 use Rattle.filter.specs.Run.{measured, outcome, estimate_after}
 use Rattle.vote.specs.declared.digest.Digest.{Digest}
-use Rattle.vote.specs.Digest.{Ballot}
+use Rattle.vote.specs.Digest.{Ballot, Decision}
 use Rattle.vote.specs.declared.votes.Seat.{Seat}
 use Rattle.vote.specs.declared.votes.Votes.{Votes}
-use Rattle.vote.specs.Digest.{Decision}
 use Rattle.vote.specs.Vote.{Answers}
 
 -- m, the label, the votes with those that are missing, and the column "Decided"

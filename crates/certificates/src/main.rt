@@ -63,20 +63,14 @@ fn say(errors: &impl Print, text: &[u8]) {
     let _ = errors.write_all(text);
 }
 
-fn tell_number(errors: &impl Print, what: &[u8], n: u32) {
-    say(errors, what);
-    let _ = errors.print(n);
-    say(errors, b"\n");
-}
-
 fn tell_place(errors: &impl Print, place: Place) {
-    match place {
-        Place::Nowhere => {}
-        Place::Line { line } => tell_number(errors, b"line ", line),
-        Place::Day => say(errors, b"day\n"),
-        Place::Count => say(errors, b"serials\n"),
-        Place::Run { run } => tell_number(errors, b"run ", run),
-    }
+    let _ = match place {
+        Place::Nowhere => Ok(()),
+        Place::Line { line } => println!(errors; "line {line}"),
+        Place::Day => println!(errors; "day"),
+        Place::Count => println!(errors; "serials"),
+        Place::Run { run } => println!(errors; "run {run}"),
+    };
 }
 
 // Reads standard input to its end, block by block, and keeps and counts all of it. An interrupted read is made again, the last one not.

@@ -3,6 +3,7 @@ pub mod State
 pub mod Start
 pub mod Merge
 pub mod Effects
+pub mod Answers
 pub mod Step
 pub mod Sent
 pub mod Told

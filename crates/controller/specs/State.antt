@@ -6,8 +6,7 @@ use Rattle.units.specs.Limits.{controllers_top, runs_top, label_top, raw_top, x_
 use Rattle.units.specs.Mask.{mask_end}
 use Rattle.floats.specs.Bits.{of_whole}
 use Rattle.floats.specs.Ranges.{state_fits}
-use Rattle.vote.specs.Digest.{Ballot}
-use Rattle.vote.specs.Digest.{legal}
+use Rattle.vote.specs.Digest.{Ballot, legal}
 use Rattle.vote.specs.Vote.{seats_fit, nobody}
 use Rattle.message.specs.Readings.{readings_fit}
 use Rattle.plan.specs.declared.brief.Brief.{Brief}

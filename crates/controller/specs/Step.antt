@@ -27,7 +27,7 @@ use Rattle.plan.specs.States.{plan_advert, plan_update, plan_setpoints}
 use Rattle.plan.specs.Timers.{plan_due, plan_ends, plan_voting_ends}
 use Rattle.plan.specs.Votes.{plan_floor, plan_digest, judged}
 use Rattle.controller.specs.declared.state.Controller.{Controller}
-use Rattle.controller.specs.declared.step.Answer.{Answer}
+use Rattle.controller.specs.Answers.{Answer}
 use Rattle.controller.specs.State.{brief_of, ballot_at, controller_fits}
 use Rattle.controller.specs.Merge.{agreed}
 use Rattle.controller.specs.Effects.{held_by, carried_by, applied}

@@ -1,9 +1,10 @@
 // The one place where a plan's effect is applied to the controller: what an effect doesn't name stays.
 ghost use Rattle.std.specs.Prelude.{set, ◌≡◌};
-ghost use Rattle.controller.specs.Effects.{added, adopting, applied, begun, carried_by, counted, holding, in_phase, issuing, merged_in};
+ghost use Rattle.controller.specs.Effects.{added, adopting, applied, begun, counted, in_phase, issuing, merged_in};
 
 use crate::merge::{merge_readings, run_bit};
 use crate::state::Controller;
+use filter::Round;
 use filter::compute::state_after;
 use message::Message;
 use plan::{Effect, Phase};
@@ -87,18 +88,21 @@ impl Controller {
     fn issue(self, numbers: Numbers, chosen: Digest) -> Controller
         ensures { result ≡ issuing numbers self chosen }
     {
-        let next = state_after(
-            self.label,
-            self.state,
-            self.estimates,
+        let state = self.estimates;
+        let readings = self.readings;
+        let next = state_after(Round {
+            label: self.label,
+            base: self.state,
+            state,
             numbers,
-            chosen.mask,
-            self.readings,
-        );
+            chosen: chosen.mask,
+            readings,
+        });
         self.adopt(self.label.issued(), next, Phase::Idle)
     }
 
     // The controller after an effect; `message` is the one at hand.
+    #[tactic(auto, unfolding(crate::specs::Effects::applied, crate::specs::Effects::issuing))]
     pub fn apply(self, numbers: Numbers, message: Message, effect: Effect) -> Controller
         ensures { result ≡ applied numbers message self effect }
     {

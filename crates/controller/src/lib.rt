@@ -10,5 +10,5 @@ pub mod step;
 pub mod told;
 
 pub use state::Controller;
-pub use step::Answer;
+pub use step::{Answer, Said};
 pub use told::Told;

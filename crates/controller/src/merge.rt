@@ -6,6 +6,7 @@ use crate::state::Controller;
 use units::mask::has;
 
 // The mask of one run, of none at sixteen or above.
+#[tactic(auto, using(units::proofs::Masks::shifted, units::proofs::Masks::mask_end_is), unfolding(crate::specs::Merge::run_bit, units::specs::Pick::pick))]
 pub(crate) fn run_bit(run: usize) -> u32
     ensures { result ≡ run_bit run }
 {
@@ -16,7 +17,7 @@ pub(crate) fn run_bit(run: usize) -> u32
 fn place_agrees(here: bool, a: u32, b: u32) -> bool
     ensures { result ≡ agree_place here a b }
 {
-    if here { a == b } else { true }
+    !here || a == b
 }
 
 // Whether two sets of readings agree on every run that is in both masks.

@@ -46,7 +46,7 @@ impl Controller {
     pub fn start(numbers: Numbers, own: usize, floor: RoundLabel) -> Result<Controller, Refusal>
         ensures { result ≡ started numbers own floor }
     {
-        if numbers.in_range() & (own < numbers.group.g) & floor.floor_in_range() {
+        if numbers.in_range() && own < numbers.group.g && floor.floor_in_range() {
             Ok(Controller::begin(numbers, own, floor))
         } else {
             Err(Refusal::Range)

@@ -12,6 +12,7 @@ use vote::{Ballot, Seat};
 
 // Own number, phase, current label, state label, the estimates of that state, the readings held (a mask of their runs, and
 // 0 where there is none), and the votes of the current label by controller.
+// Arrays by run, as document 01 names them; the readings are beside the mask that goes into Q, R and D (`controller_fits`).
 #[derive(Clone, Copy)]
 pub struct Controller {
     pub own: usize,
@@ -83,10 +84,7 @@ impl Controller {
     pub(crate) fn ballot(self, seat: usize) -> Ballot
         ensures { result ≡ ballot_at self seat }
     {
-        match self.votes.get(seat) {
-            Some(s) => s.ballot,
-            None => None,
-        }
+        self.votes.get(seat).and_then(|s| s.ballot)
     }
 }
 
@@ -94,7 +92,7 @@ impl Controller {
 fn is_cast(b: Ballot) -> bool
     ensures { result ≡ cast b }
 {
-    matches!(b, Some(_))
+    b.is_some()
 }
 
 // Not idle: the digest that it would vote is legal, and its own vote is there exactly while voting.
@@ -105,23 +103,24 @@ fn phase_in_range(b: Brief, m: usize, own: Ballot) -> bool
     let legal = b.own_digest().legal(m, b.label);
     match b.phase {
         Phase::Idle => true,
-        Phase::Collecting | Phase::Pending => legal & !is_cast(own),
-        Phase::Voting => legal & is_cast(own),
+        Phase::Collecting | Phase::Pending => legal && !is_cast(own),
+        Phase::Voting => legal && is_cast(own),
     }
 }
 
 impl Controller {
+    #[tactic(auto, unfolding(crate::specs::State::controller_fits))]
     pub fn in_range(self, numbers: Numbers) -> bool
         ensures { result ≡ controller_fits numbers self }
     {
         let group = numbers.group;
-        (self.own < group.g)
-            & self.label.floor_in_range()
-            & self.state.in_range()
-            & state_in_range(self.estimates, group.m)
-            & (self.held < mask_end(group.m))
-            & readings_in_range(self.held, self.readings)
-            & seats_in_range(self.votes, group, self.label)
-            & phase_in_range(self.brief(), group.m, self.ballot(self.own))
+        self.own < group.g
+            && self.label.floor_in_range()
+            && self.state.in_range()
+            && state_in_range(self.estimates, group.m)
+            && self.held < mask_end(group.m)
+            && readings_in_range(self.held, self.readings)
+            && seats_in_range(self.votes, group, self.label)
+            && phase_in_range(self.brief(), group.m, self.ballot(self.own))
     }
 }

@@ -13,23 +13,24 @@ use units::{Estimate, Numbers, Refusal, RoundLabel, Verdict};
 use vote::{Decision, Digest, Votes, decide, put_vote};
 
 // The next controller, what is sent (first, then second, with no gap), and what the step says.
+// The verdict stands beside the rest: after a refusal that ends the round the next state is another, and D is still sent (`Ended`).
 #[derive(Clone, Copy)]
-pub struct Answer {
+pub struct Said<M> {
     pub next: Controller,
-    pub first: Sent,
-    pub second: Sent,
+    pub first: Option<M>,
+    pub second: Option<M>,
     pub verdict: Verdict,
 }
+
+// An answer that has what is sent by its heads.
+pub type Answer = Said<Head>;
 
 impl Controller {
     // What is held for a run, 0 where nothing is.
     fn reading(self, run: usize) -> u32
         ensures { result ≡ get_or self.readings run 0 }
     {
-        match self.readings.get(run) {
-            Some(raw) => *raw,
-            None => 0,
-        }
+        self.readings.get(run).copied().unwrap_or(0)
     }
 
     // What all votes are decided for, once a vote is in its seat.
@@ -155,7 +156,7 @@ impl Controller {
     fn inputs_in_range(self, numbers: Numbers, message: Message) -> bool
         ensures { result ≡ inputs_fit numbers self message }
     {
-        numbers.in_range() & self.in_range(numbers) & message.in_range(numbers.group)
+        numbers.in_range() && self.in_range(numbers) && message.in_range(numbers.group)
     }
 
     // A step on inputs that are in range: what the message leads to, carried out. Unchecked: `step` stands above it.
@@ -163,7 +164,7 @@ impl Controller {
         ensures { result ≡ carried_out numbers self message (planned numbers self message message.head) }
     {
         let plan = self.plan(numbers, message);
-        Answer {
+        Said {
             next: self.apply(numbers, message, plan.effect),
             first: plan.first,
             second: plan.second,
@@ -179,7 +180,7 @@ impl Controller {
         if self.inputs_in_range(numbers, message) {
             self.advance(numbers, message)
         } else {
-            Answer {
+            Said {
                 next: self,
                 first: None,
                 second: None,

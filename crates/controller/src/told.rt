@@ -4,19 +4,13 @@ ghost use Rattle.controller.specs.Step.{stepped};
 ghost use Rattle.controller.specs.Told.{told, whole_of};
 
 use crate::state::Controller;
-use crate::step::Answer;
-use message::Message;
+use crate::step::{Answer, Said};
+use message::{Head, Message};
 use plan::Sent;
-use units::{Numbers, Verdict};
+use units::Numbers;
 
-// The messages sent, in their order and with no gap before the second.
-#[derive(Clone, Copy)]
-pub struct Told {
-    pub next: Controller,
-    pub first: Option<Message>,
-    pub second: Option<Message>,
-    pub verdict: Verdict,
-}
+// An answer with its messages whole.
+pub type Told = Said<Message>;
 
 impl Controller {
     // The message that is sent, whole, by the controller after the step.
@@ -24,20 +18,17 @@ impl Controller {
     fn whole(self, numbers: Numbers, sent: Sent) -> Option<Message>
         ensures { result ≡ whole_of numbers self sent }
     {
-        match sent {
-            None => None,
-            Some(head) => Some(self.message(numbers, head)),
-        }
+        sent.map(|head| self.message(numbers, head))
     }
 }
 
-impl Answer {
+impl Said<Head> {
     // The answer with its messages made.
     #[tactic(auto, unfolding(crate::specs::Told::told))]
     pub(crate) fn tell(self, numbers: Numbers) -> Told
         ensures { result ≡ told numbers self }
     {
-        Told {
+        Said {
             next: self.next,
             first: self.next.whole(numbers, self.first),
             second: self.next.whole(numbers, self.second),

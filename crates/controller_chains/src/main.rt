@@ -7,13 +7,19 @@ mod chain;
 mod print;
 mod wrong;
 
-use chain::CHAIN;
+use chain::{CHAIN, Row};
 use controller::Controller;
 use message::{Head, Message};
 use std::{array, io};
 use units::mask::has;
-use units::{Estimate, Group, Numbers, RoundLabel, StateLabel, verdict_number};
+use units::{Estimate, Group, Numbers, RoundLabel, answer_number};
 use vote::Digest;
+
+// What stands where no run is.
+pub(crate) const BLANK: Estimate = Estimate {
+    x: 0.0,
+    variance: 0.0,
+};
 
 // Three controllers and three runs.
 pub(crate) fn settings() -> Numbers {
@@ -48,87 +54,60 @@ fn readings_from(mask: u32, first: u32) -> [u32; 16] {
 
 // The estimates of a U: x, and 1 more for each run; one P for all.
 fn estimates_from(x: u32, variance: u32) -> [Estimate; 16] {
-    let mut estimates = [Estimate {
-        x: 0.0,
-        variance: 0.0,
-    }; 16];
+    let mut estimates = [BLANK; 16];
     for i in 0..3 {
         estimates[i] = Estimate {
-            x: (x % 1000000 + i as u32) as f64,
-            variance: variance as f64,
+            x: f64::from(x % 1000000 + i as u32),
+            variance: f64::from(variance),
         };
     }
     estimates
 }
 
-fn digest(state: u32, mask: u32) -> Digest {
-    let state = StateLabel(state);
-    Digest { mask, state }
-}
-
-// What a message from another controller says by its kind and numbers, but for its arrays.
-fn head(kind: u8, values: [u32; 4]) -> Head {
-    let [a, b, c, d] = values;
-    let sender = a as usize;
-    let label = RoundLabel(b);
-    let state = StateLabel(b);
-    match kind {
-        b'A' => Head::Advert { sender, state },
-        b'D' => Head::Vote {
+// What a row's message says, but for its arrays.
+fn head(row: Row) -> Head {
+    match row {
+        Row::Advert(sender, state) => Head::Advert { sender, state },
+        Row::CollectingEnds(label) => Head::CollectingEnds { label },
+        Row::Due(label) => Head::Due { label },
+        Row::Floor(label) => Head::Floor { label },
+        Row::Query(sender, label, mask) => Head::Query {
             sender,
             label,
-            digest: digest(c, d),
+            mask,
         },
-        b'Q' => Head::Query {
+        Row::Reading(label, run, raw) => Head::Reading { label, run, raw },
+        Row::Refused(number) => Head::Refused { number },
+        Row::Reply(sender, label, mask, _) => Head::Reply {
             sender,
             label,
-            mask: c,
+            mask,
         },
-        b'R' => Head::Reply {
+        Row::Setpoints(sender, label, state, mask) => Head::Setpoints {
             sender,
             label,
-            mask: c,
+            digest: Digest { mask, state },
         },
-        b'S' => Head::Setpoints {
+        Row::Start(own, floor) => Head::Start { own, floor },
+        Row::Update(sender, state, _, _) => Head::Update { sender, state },
+        Row::Vote(sender, label, state, mask) => Head::Vote {
             sender,
             label,
-            digest: digest(c, d),
+            digest: Digest { mask, state },
         },
-        b'U' => Head::Update { sender, state },
-        _ => host_head(kind, a, b, c),
+        Row::VotingEnds(label) => Head::VotingEnds { label },
     }
 }
 
-// The same of the host's.
-fn host_head(kind: u8, a: u32, b: u32, c: u32) -> Head {
-    let label = RoundLabel(a);
-    let own = a as usize;
-    let floor = RoundLabel(b);
-    match kind {
-        b'B' => Head::Start { own, floor },
-        b'C' => Head::Due { label },
-        b'E' => Head::CollectingEnds { label },
-        b'F' => Head::Floor { label },
-        b'M' => Head::Reading {
-            label,
-            run: b as usize,
-            raw: c,
-        },
-        b'V' => Head::VotingEnds { label },
-        _ => Head::Refused { number: a },
-    }
-}
-
-fn message(kind: u8, values: [u32; 4]) -> Message {
-    let [_, _, c, d] = values;
-    let plain = Message::plain(head(kind, values));
-    match kind {
-        b'R' => Message {
-            readings: readings_from(c, d),
+fn message(row: Row) -> Message {
+    let plain = Message::plain(head(row));
+    match row {
+        Row::Reply(_, _, mask, first) => Message {
+            readings: readings_from(mask, first),
             ..plain
         },
-        b'U' => Message {
-            estimates: estimates_from(c, d),
+        Row::Update(_, _, x, variance) => Message {
+            estimates: estimates_from(x, variance),
             ..plain
         },
         _ => plain,
@@ -141,7 +120,7 @@ fn play(rt: &impl Print, numbers: Numbers, c: Controller, a: Message) -> io::Res
     let verdict = r.verdict;
     let next = r.next;
     let now = next.state;
-    print::number(rt, verdict_number(verdict))?;
+    print::number(rt, answer_number(verdict))?;
     print::brief(rt, next)?;
     print::sent(rt, numbers.group.m, r)?;
     if !now.same(before) {
@@ -154,8 +133,8 @@ fn play(rt: &impl Print, numbers: Numbers, c: Controller, a: Message) -> io::Res
 fn main(rt: HostRuntime) -> io::Result<()> {
     let numbers = settings();
     let mut c = Controller::begin(numbers, 0, RoundLabel(0));
-    for (kind, values) in CHAIN {
-        c = play(&rt, numbers, c, message(kind, values))?;
+    for row in CHAIN {
+        c = play(&rt, numbers, c, message(row))?;
     }
     wrong::states(&rt)?;
     wrong::starts(&rt)

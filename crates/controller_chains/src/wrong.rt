@@ -1,11 +1,12 @@
 // A controller state and settings that are in range, and then with one thing in them changed at a time: what a step says, and the state after it, whole.
 // tests/controller/chains.rs has the same rows, with a remark on each.
-use crate::{print, settings};
+use crate::{BLANK, print, settings};
 use controller::Controller;
 use message::{Head, Message};
 use plan::Phase;
 use std::io;
-use units::{Estimate, Numbers, RoundLabel, StateLabel, verdict_number};
+use units::limits::{CONTROLLERS, RUNS};
+use units::{Estimate, Numbers, RoundLabel, StateLabel, answer_number};
 use vote::{Digest, Seat, put_vote};
 
 // What is changed in a state: a number, what stands at a run or a seat (a vote by its state label and mask), or all readings.
@@ -151,14 +152,10 @@ fn sound_votes(phase: Phase) -> [Seat; 7] {
 
 // Own number 0, label 5, state label 2, readings of runs 0 and 1, and the votes above.
 fn sound(phase: Phase) -> Controller {
-    let blank = Estimate {
-        x: 0.0,
-        variance: 0.0,
-    };
     let mut readings = [0u32; 16];
     readings[0] = 1000000;
     readings[1] = 200;
-    let mut estimates = [blank; 16];
+    let mut estimates = [BLANK; 16];
     estimates[0] = Estimate {
         x: 1100000.0,
         variance: 5.0,
@@ -183,13 +180,6 @@ fn sound(phase: Phase) -> Controller {
     }
 }
 
-// What stands at place i, where there is such a place.
-fn put<T: Copy>(places: &mut [T], i: usize, x: T) {
-    if i < places.len() {
-        places[i] = x;
-    }
-}
-
 // A state with one thing changed.
 fn changed(c: Controller, change: Change) -> Controller {
     let mut next = c;
@@ -199,21 +189,13 @@ fn changed(c: Controller, change: Change) -> Controller {
         Change::Label(n) => next.label = RoundLabel(n),
         Change::State(n) => next.state = StateLabel(n),
         Change::Held(mask) => next.held = mask,
-        Change::Reading(run, raw) => put(&mut next.readings, run, raw),
-        Change::X(run, x) => {
-            if let Some(e) = next.estimates.get_mut(run) {
-                e.x = x;
-            }
-        }
-        Change::Variance(run, variance) => {
-            if let Some(e) = next.estimates.get_mut(run) {
-                e.variance = variance;
-            }
-        }
+        Change::Reading(run, raw) => next.readings[run % RUNS] = raw,
+        Change::X(run, x) => next.estimates[run % RUNS].x = x,
+        Change::Variance(run, variance) => next.estimates[run % RUNS].variance = variance,
         Change::Vote(seat, state, mask) => {
             next.votes = put_vote(next.votes, seat, digest(state, mask))
         }
-        Change::NoVote(seat) => put(&mut next.votes, seat, Seat { ballot: None }),
+        Change::NoVote(seat) => next.votes[seat % CONTROLLERS] = Seat { ballot: None },
         Change::NoReading => {
             next.held = 0;
             next.readings = [0; 16];
@@ -232,8 +214,8 @@ fn settings_with(setting: Setting) -> Numbers {
         Setting::Q(n) => next.q = n,
         Setting::R(n) => next.r = n,
         Setting::P(n) => next.p = n,
-        Setting::Factor(run, n) => put(&mut next.factors, run, n),
-        Setting::Weight(run, n) => put(&mut next.weights, run, n),
+        Setting::Factor(run, n) => next.factors[run % RUNS] = n,
+        Setting::Weight(run, n) => next.weights[run % RUNS] = n,
     }
     next
 }
@@ -247,7 +229,7 @@ fn shown(rt: &impl Print, numbers: Numbers, c: Controller) -> io::Result<()> {
     let r = c.step(numbers, a);
     let verdict = r.verdict;
     let next = r.next;
-    print::number(rt, verdict_number(verdict))?;
+    print::number(rt, answer_number(verdict))?;
     print::sent(rt, numbers.group.m, r)?;
     print::controller(rt, next)
 }

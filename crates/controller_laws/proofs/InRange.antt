@@ -22,8 +22,7 @@ use Rattle.units.proofs.Masks.{mask_end_is}
 use Rattle.units.proofs.Picked.{by_yes, by_no}
 use Rattle.floats.proofs.Places.{estimate_x, estimate_variance, estimate_made, state_length, state_run, state_blank, state_made}
 use Rattle.vote.specs.declared.digest.Digest.{Digest}
-use Rattle.vote.specs.Digest.{Ballot}
-use Rattle.vote.specs.Digest.{legal}
+use Rattle.vote.specs.Digest.{Ballot, legal}
 use Rattle.vote.specs.Vote.{seat_fits}
 use Rattle.message.specs.declared.head.Head.{Head}
 use Rattle.message.specs.declared.value.Message.{Message}

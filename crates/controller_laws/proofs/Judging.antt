@@ -16,9 +16,8 @@ use Rattle.units.specs.Labels.{before, round_fits}
 use Rattle.units.proofs.Every.{absurd_by, and_both, and_three}
 use Rattle.units.proofs.Picked.{by_yes}
 use Rattle.vote.specs.declared.digest.Digest.{Digest}
-use Rattle.vote.specs.Digest.{Decision}
+use Rattle.vote.specs.Digest.{Decision, legal}
 use Rattle.vote.specs.declared.votes.Seat.{Seat}
-use Rattle.vote.specs.Digest.{legal}
 use Rattle.vote.specs.Vote.{votes_fit, Decides, Answers, nobody, seated}
 use Rattle.vote.proofs.Answer.{decision_exact, decided_one}
 use Rattle.message.specs.declared.head.Head.{Head}
@@ -30,11 +29,10 @@ use Rattle.plan.specs.declared.brief.Phase.TheVariants.{Idle, Collecting, Pendin
 use Rattle.plan.specs.declared.planned.Effect.{Effect}
 use Rattle.plan.specs.declared.planned.Effect.TheVariants.{Count, Issue}
 use Rattle.plan.specs.declared.planned.Plan.{Plan}
-use Rattle.plan.specs.Plan.{Sent}
-use Rattle.plan.specs.Plan.{does, afterwards}
+use Rattle.plan.specs.Plan.{Sent, does, afterwards}
 use Rattle.plan.specs.Votes.{chosen_plan, judged, possessed}
 use Rattle.controller.specs.declared.state.Controller.{Controller}
-use Rattle.controller.specs.declared.step.Answer.{Answer}
+use Rattle.controller.specs.Answers.{Answer}
 use Rattle.controller.specs.State.{brief_of, ballot_at}
 use Rattle.controller.specs.Effects.{applied, counted, issuing}
 use Rattle.controller.specs.Step.{decision_with, votes_with, judged_in, judged_plan, vote_plan, planned, inputs_fit, carried_out, stepped}

@@ -6,10 +6,9 @@ use mathlib.Core.Bool.{true, false, true≢false}
 use lib.Dec.{eqb}
 use borrow.Author.Tests.{lt-ltb}
 use Rattle.units.specs.declared.refusal.Refusal.TheVariants.{Range, Undecided, Lacking, Behind}
-use Rattle.units.specs.Refusal.{Verdict}
+use Rattle.units.specs.Refusal.{Verdict, verdict_number}
 use Rattle.units.specs.declared.settings.Numbers.{Numbers}
 use Rattle.units.specs.Labels.{before}
-use Rattle.units.specs.Refusal.{verdict_number}
 use Rattle.vote.specs.declared.digest.Digest.{Digest}
 use Rattle.vote.proofs.Decided.{decided_legal}
 use Rattle.vote.proofs.InRange.{legal_range}
@@ -17,10 +16,9 @@ use Rattle.message.specs.declared.head.Head.{Head}
 use Rattle.message.specs.declared.value.Message.{Message}
 use Rattle.plan.specs.declared.planned.Effect.{Effect}
 use Rattle.plan.specs.declared.planned.Plan.{Plan}
-use Rattle.plan.specs.Plan.{Sent}
-use Rattle.plan.specs.Plan.{afterwards}
+use Rattle.plan.specs.Plan.{Sent, afterwards}
 use Rattle.controller.specs.declared.state.Controller.{Controller}
-use Rattle.controller.specs.declared.step.Answer.{Answer}
+use Rattle.controller.specs.Answers.{Answer}
 use Rattle.controller.specs.Step.{decision_with, votes_with, stepped}
 use Rattle.controller_laws.specs.Ways.{ends_round, Leads, Goes}
 use Rattle.controller_laws.specs.Ways.Leads.{refused, unchanged, begins, adds, replies, merges, updates, adopts_idle, adopts_before, adopts_past, asks, adverts, asks_and_adverts, collected, lapses, counts, open_still, behind, lacking, issues, restarts}

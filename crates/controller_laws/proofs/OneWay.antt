@@ -17,9 +17,7 @@ use Rattle.units.specs.Pick.{pick}
 use Rattle.units.proofs.Picked.{by_yes, by_no, along}
 use Rattle.floats.specs.Ranges.{same_state}
 use Rattle.vote.specs.declared.digest.Digest.{Digest}
-use Rattle.vote.specs.Digest.{Decision}
-use Rattle.vote.specs.Digest.{Ballot}
-use Rattle.vote.specs.Digest.{same}
+use Rattle.vote.specs.Digest.{Decision, Ballot, same}
 use Rattle.vote.proofs.Order.{same_true, same_refl}
 use Rattle.message.specs.declared.head.Head.{Head}
 use Rattle.message.specs.declared.head.Head.TheVariants.{Vote}
@@ -29,15 +27,14 @@ use Rattle.plan.specs.declared.brief.Phase.{Phase}
 use Rattle.plan.specs.declared.brief.Phase.TheVariants.{Idle, Collecting, Pending, Voting}
 use Rattle.plan.specs.declared.planned.Effect.TheVariants.{Keep, Adopt, Count}
 use Rattle.plan.specs.declared.planned.Plan.{Plan}
-use Rattle.plan.specs.Plan.{Sent}
-use Rattle.plan.specs.Plan.{refuse, does}
+use Rattle.plan.specs.Plan.{Sent, refuse, does}
 use Rattle.plan.specs.Readings
 use Rattle.plan.specs.Readings.{same_round, plan_reading, answered, in_query, in_reply}
 use Rattle.plan.specs.States.{overtaken, adopted, in_update}
 use Rattle.plan.specs.Timers.{in_due, in_ends, in_voting_ends}
 use Rattle.plan.specs.Votes.{in_floor, plan_floor, in_seat, in_digest, plan_digest, chosen_plan, judged}
 use Rattle.controller.specs.declared.state.Controller.{Controller}
-use Rattle.controller.specs.declared.step.Answer.{Answer}
+use Rattle.controller.specs.Answers.{Answer}
 use Rattle.controller.specs.State.{brief_of, ballot_at}
 use Rattle.controller.specs.Step.{decision_with, judged_in, judged_plan, vote_plan, clashing, planned, carried_out, stepped}
 use Rattle.controller_laws.specs.Phases.{Busy, Early, Open, Fixed, Free}

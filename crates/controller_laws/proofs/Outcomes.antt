@@ -17,11 +17,10 @@ use Rattle.message.specs.View.{on_some, as_reply, as_update, as_issue}
 use Rattle.plan.specs.declared.brief.Phase.TheVariants.{Idle}
 use Rattle.plan.specs.declared.planned.Effect.TheVariants.{Issue}
 use Rattle.plan.specs.declared.planned.Plan.{Plan}
-use Rattle.plan.specs.Plan.{Sent}
-use Rattle.plan.specs.Plan.{afterwards}
+use Rattle.plan.specs.Plan.{Sent, afterwards}
 use Rattle.plan.specs.Votes.{own_digest, possessed}
 use Rattle.controller.specs.declared.state.Controller.{Controller}
-use Rattle.controller.specs.declared.step.Answer.{Answer}
+use Rattle.controller.specs.Answers.{Answer}
 use Rattle.controller.specs.State.{brief_of}
 use Rattle.controller.specs.Start.{start_of}
 use Rattle.controller.specs.Effects.{applied, counted, issuing}

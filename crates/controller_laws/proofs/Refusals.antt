@@ -11,10 +11,9 @@ use Rattle.message.specs.declared.head.Head.{Head}
 use Rattle.message.specs.declared.value.Message.{Message}
 use Rattle.plan.specs.declared.planned.Effect.{Effect}
 use Rattle.plan.specs.declared.planned.Plan.{Plan}
-use Rattle.plan.specs.Plan.{Sent}
-use Rattle.plan.specs.Plan.{afterwards}
+use Rattle.plan.specs.Plan.{Sent, afterwards}
 use Rattle.controller.specs.declared.state.Controller.{Controller}
-use Rattle.controller.specs.declared.step.Answer.{Answer}
+use Rattle.controller.specs.Answers.{Answer}
 use Rattle.controller.specs.Effects.{applied}
 use Rattle.controller.specs.Step.{inputs_fit, carried_out, stepped}
 use Rattle.controller_laws.specs.Endings.{refused_only, Ended}

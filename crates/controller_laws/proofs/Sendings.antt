@@ -33,12 +33,11 @@ use Rattle.message.proofs.Plain.{none_fit, unused_estimates, unused_targets, pla
 use Rattle.plan.specs.declared.brief.Phase.TheVariants.{Idle}
 use Rattle.plan.specs.declared.planned.Effect.TheVariants.{Issue}
 use Rattle.plan.specs.declared.planned.Plan.{Plan}
-use Rattle.plan.specs.Plan.{Sent}
-use Rattle.plan.specs.Plan.{afterwards}
+use Rattle.plan.specs.Plan.{Sent, afterwards}
 use Rattle.plan.specs.Timers.{missing_runs}
 use Rattle.plan.specs.Votes.{own_digest}
 use Rattle.controller.specs.declared.state.Controller.{Controller}
-use Rattle.controller.specs.declared.step.Answer.{Answer}
+use Rattle.controller.specs.Answers.{Answer}
 use Rattle.controller.specs.State.{brief_of}
 use Rattle.controller.specs.Merge.{selected}
 use Rattle.controller.specs.Effects.{counted, issuing, applied}

@@ -26,7 +26,7 @@ use Rattle.message.specs.Head.{head_fits}
 use Rattle.plan.specs.declared.brief.Phase.TheVariants.{Collecting}
 use Rattle.plan.specs.declared.planned.Plan.{Plan}
 use Rattle.controller.specs.declared.state.Controller.{Controller}
-use Rattle.controller.specs.declared.step.Answer.{Answer}
+use Rattle.controller.specs.Answers.{Answer}
 use Rattle.controller.specs.Effects.{held_by, carried_by, applied}
 use Rattle.controller.specs.Merge.{Set, run_bit, agree_place, agree_at, agrees, merged_at, merged, single, agreed, together, join}
 use Rattle.controller.specs.Step.{inputs_fit, stepped}

@@ -1,5 +1,7 @@
 -- "it goes in, and comes back with what to send": what the step tells of is what is sent, as whole messages, none, one or two. Assumes nothing.
 use Rattle.std.specs.Prelude.{Option, None, Some}
+use Prim.Native.Nat.{◌+◌, ◌≤◌}
+use native.Mathlib.Omega.{arith}
 use mathlib.Core.Path.{◌≡◌, refl, ap}
 use mathlib.Core.Logic.{inl, inr, ⊎_elim}
 use Rattle.units.specs.declared.settings.Numbers.{Numbers}
@@ -8,10 +10,10 @@ use Rattle.message.specs.declared.head.Head.{Head}
 use Rattle.message.specs.declared.value.Message.{Message}
 use Rattle.plan.specs.Plan.{Sent}
 use Rattle.controller.specs.declared.state.Controller.{Controller}
-use Rattle.controller.specs.declared.step.Answer.{Answer}
+use Rattle.controller.specs.Answers.{Answer}
 use Rattle.controller.specs.Sent.{sent_message}
 use Rattle.controller.specs.Step.{stepped}
-use Rattle.controller.specs.Told.{whole_of, told}
+use Rattle.controller.specs.Told.{whole_of, told, sent_count}
 use Rattle.controller_laws.specs.Sendings.{IsSent, Tells}
 use Rattle.controller_laws.proofs.Sendings.{sent_in_order}
 
@@ -44,10 +46,15 @@ module _ (s : Numbers) (r : Answer) where
       none_left None e = refl
       none_left (Some head) e = absurd_by (cc)
 
+one_or_none : (x : Option Message) → sent_count x ≤ 1
+one_or_none None = omega arith
+one_or_none (Some x) = omega arith
+
 module _ (s : Numbers) (c : Controller) (a : Message) where
   -- none, one or two, with no gap
-  pub told_few : (told s (stepped s c a)).first ≡ None → (told s (stepped s c a)).second ≡ None
-  told_few = in_order s (stepped s c a) (sent_in_order s c a)
+  pub told_few : (sent_count (told s (stepped s c a)).first + sent_count (told s (stepped s c a)).second ≤ 2)
+      × ((told s (stepped s c a)).first ≡ None → (told s (stepped s c a)).second ≡ None)
+  told_few = (omega (arith, one_or_none (told s (stepped s c a)).first, one_or_none (told s (stepped s c a)).second), in_order s (stepped s c a) (sent_in_order s c a))
 
   -- each message that is sent is told of, whole ..
   pub told_sent : (head : Head) → IsSent (stepped s c a) head → Tells (told s (stepped s c a)) (sent_message s (stepped s c a).next head)

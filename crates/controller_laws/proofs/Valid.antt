@@ -15,9 +15,8 @@ use Rattle.units.proofs.Every.{and_left, and_right, and_both}
 use Rattle.units.proofs.InRange.{numbers_range}
 use Rattle.units.proofs.Masks.{mask_end_is}
 use Rattle.floats.specs.Ranges.{state_fits}
-use Rattle.vote.specs.Digest.{Ballot}
+use Rattle.vote.specs.Digest.{Ballot, legal}
 use Rattle.vote.specs.declared.votes.Seat.{Seat}
-use Rattle.vote.specs.Digest.{legal}
 use Rattle.vote.specs.Vote.{nobody, seats_fit}
 use Rattle.message.specs.Readings.{readings_fit}
 use Rattle.plan.specs.declared.brief.Brief.{Brief}

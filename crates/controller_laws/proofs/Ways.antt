@@ -19,9 +19,7 @@ use Rattle.units.specs.Pick.{pick}
 use Rattle.floats.specs.Ranges.{same_state}
 use Rattle.units.proofs.Every.{absurd_by}
 use Rattle.vote.specs.declared.digest.Digest.{Digest}
-use Rattle.vote.specs.Digest.{Decision}
-use Rattle.vote.specs.Digest.{Ballot}
-use Rattle.vote.specs.Digest.{same}
+use Rattle.vote.specs.Digest.{Decision, Ballot, same}
 use Rattle.vote.proofs.Order.{same_true, same_refl}
 use Rattle.message.specs.declared.head.Head.{Head}
 use Rattle.message.specs.declared.head.Head.TheVariants.{Reading, Query, Reply, Advert, Update, Vote, Setpoints, Due, CollectingEnds, VotingEnds, Floor, Start, Refused}
@@ -30,8 +28,7 @@ use Rattle.plan.specs.declared.brief.Phase.{Phase}
 use Rattle.plan.specs.declared.brief.Phase.TheVariants.{Idle, Collecting, Pending, Voting}
 use Rattle.plan.specs.declared.planned.Effect.TheVariants.{Keep, Adopt, Count}
 use Rattle.plan.specs.declared.planned.Plan.{Plan}
-use Rattle.plan.specs.Plan.{Sent}
-use Rattle.plan.specs.Plan.{refuse, does, sends}
+use Rattle.plan.specs.Plan.{Sent, refuse, does, sends}
 use Rattle.plan.specs.Readings
 use Rattle.plan.specs.Readings.{same_round, plan_reading, answered, in_query, in_reply}
 use Rattle.plan.specs.States.{overtaken, adopted, in_update}

@@ -8,7 +8,7 @@ use Rattle.message.specs.declared.head.Head.TheVariants.{VotingEnds}
 use Rattle.plan.specs.declared.brief.Phase.TheVariants.{Idle, Voting}
 use Rattle.plan.specs.Plan.{Sent}
 use Rattle.controller.specs.declared.state.Controller.{Controller}
-use Rattle.controller.specs.declared.step.Answer.{Answer}
+use Rattle.controller.specs.Answers.{Answer}
 use Rattle.controller.specs.Effects.{in_phase, counted}
 use Rattle.controller_laws.specs.Ways.{Votes}
 

@@ -9,7 +9,7 @@ use Rattle.plan.specs.declared.brief.Phase.TheVariants.{Idle, Voting}
 use Rattle.plan.specs.Plan.{Sent}
 use Rattle.plan.specs.Votes.{possessed}
 use Rattle.controller.specs.declared.state.Controller.{Controller}
-use Rattle.controller.specs.declared.step.Answer.{Answer}
+use Rattle.controller.specs.Answers.{Answer}
 use Rattle.controller.specs.State.{brief_of}
 use Rattle.controller.specs.Effects.{counted, issuing}
 use Rattle.controller.specs.Step.{votes_with}

@@ -12,7 +12,7 @@ use Rattle.plan.specs.Plan.{Sent}
 use Rattle.plan.specs.Timers.{missing_runs}
 use Rattle.plan.specs.Votes.{own_digest, possessed}
 use Rattle.controller.specs.declared.state.Controller.{Controller}
-use Rattle.controller.specs.declared.step.Answer.{Answer}
+use Rattle.controller.specs.Answers.{Answer}
 use Rattle.controller.specs.State.{brief_of}
 use Rattle.controller.specs.Start.{start_estimates}
 use Rattle.controller.specs.Effects.{counted, issuing}

@@ -13,8 +13,7 @@ use Rattle.plan.specs.Plan.{Sent}
 use Rattle.plan.specs.Timers.{missing_runs}
 use Rattle.plan.specs.Votes.{own_digest}
 use Rattle.controller.specs.declared.state.Controller.{Controller}
-use Rattle.controller.specs.declared.step.Answer.{Answer}
-use Rattle.controller.specs.declared.told.Told.{Told}
+use Rattle.controller.specs.Answers.{Answer, Told}
 use Rattle.controller.specs.State.{brief_of}
 use Rattle.controller.specs.Step.{decision_with}
 use Rattle.controller_laws.specs.Phases.{Busy, Early}

@@ -14,7 +14,7 @@ use Rattle.message.specs.Head.{carried}
 use Rattle.message.specs.Message.{plain}
 use Rattle.plan.specs.Plan.{Sent}
 use Rattle.controller.specs.declared.state.Controller.{Controller}
-use Rattle.controller.specs.declared.step.Answer.{Answer}
+use Rattle.controller.specs.Answers.{Answer}
 use Rattle.controller.specs.Sent.{sent_message}
 use Rattle.controller.specs.Step.{stepped}
 

@@ -17,12 +17,11 @@ use Rattle.message.specs.declared.value.Message.{Message}
 use Rattle.plan.specs.declared.brief.Phase.TheVariants.{Idle, Collecting, Pending, Voting}
 use Rattle.plan.specs.declared.planned.Effect.TheVariants.{Keep, Go, Begin, Add, Merge, Adopt, Count, Issue, Restart}
 use Rattle.plan.specs.declared.planned.Plan.{Plan}
-use Rattle.plan.specs.Plan.{Sent}
-use Rattle.plan.specs.Plan.{refuse, does, sends, both, afterwards}
+use Rattle.plan.specs.Plan.{Sent, refuse, does, sends, both, afterwards}
 use Rattle.plan.specs.Timers.{missing_runs}
 use Rattle.plan.specs.Votes.{own_digest, end_of, possessed}
 use Rattle.controller.specs.declared.state.Controller.{Controller}
-use Rattle.controller.specs.declared.step.Answer.{Answer}
+use Rattle.controller.specs.Answers.{Answer}
 use Rattle.controller.specs.State.{brief_of, ballot_at}
 use Rattle.controller.specs.Step.{clashing, decision_with, inputs_fit, carried_out}
 use Rattle.controller_laws.specs.Phases.{Busy, Early, Free}

@@ -29,7 +29,7 @@ fn tell_at(rt: &impl Print, text: &[u8], at: usize) -> io::Result<()> {
     tell_field(rt, read_factor(text, at, 0, WIDE))?;
     tell_field(
         rt,
-        read_factor(text, at, FACTOR_LOW as u64, FACTOR_TOP as u64),
+        read_factor(text, at, u64::from(FACTOR_LOW), u64::from(FACTOR_TOP)),
     )
 }
 
@@ -69,9 +69,9 @@ fn show(
     behind: &[u8],
     between: &[u8],
 ) -> io::Result<bool> {
-    let first = in_form(alone, 0) | in_form(followed, 0);
-    let second = in_form(behind, 2) | in_form(between, 2);
-    if !(first | second) {
+    let first = in_form(alone, 0) || in_form(followed, 0);
+    let second = in_form(behind, 2) || in_form(between, 2);
+    if !(first || second) {
         return Ok(false);
     }
     say_field(rt, alone)?;

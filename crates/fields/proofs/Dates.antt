@@ -1,19 +1,17 @@
 -- Dates that are, and that are not; that their numbers are in the order of the days; and the one spelling of a day. Assumes nothing.
 use Prim.Native.Nat.{ℕ, ◌<◌}
 use mathlib.Core.Path.{◌≡◌, refl, sym}
-use mathlib.Core.Bool.{Bool, true, false, ◌&&◌, ◌||◌}
+use mathlib.Core.Bool.{true, false, ◌&&◌}
 use mathlib.Core.List.{List}
-use lib.Dec.{eqb, lit≤, lit<}
-use borrow.Author.Tests.{ne_eqb}
+use lib.Dec.{lit≤, lit<}
 use native.Mathlib.Omega.{arith}
-use Rattle.std.specs.Prelude.{Option, Some, None, Err}
+use Rattle.std.specs.Prelude.{Option, Some, None}
 use Rattle.units.specs.Within.{within}
 use Rattle.units.proofs.Every.{and_left, and_right, and_both}
 use Rattle.units.proofs.InRange.{within_range, within_made}
 use Rattle.fields.specs.Digits.{fixed_in, fixed}
-use Rattle.fields.specs.declared.field.Fault.TheVariants.{Range}
 use Rattle.fields.specs.Field.{value}
-use Rattle.fields.specs.Day.{is_leap, days_in, date_fits, year_of, month_of, day_of, Date, Earlier, by_year, by_month, by_day, day_judged, day_in}
+use Rattle.fields.specs.Day.{days_in, date_fits, year_of, month_of, day_of, Date, Earlier, by_year, by_month, by_day, day_judged, day_in}
 use Rattle.fields.proofs.Cases.{by_test, by_lt, absurd_by, value_same}
 use Rattle.fields.proofs.Numbers.{fixed_only, fixed_read}
 
@@ -75,34 +73,3 @@ day_only next cs n m e = let j = judged_only next (fixed_in 10 8 0 cs) n m e in 
 pub day_read : (next n : ℕ) → date_fits n ≡ true → day_in next (fixed 10 8 n) ≡ value n next
 unfolding day_in day_judged
 day_read next n e = let b = date_within n e in rw (fixed_read 10 8 n (lit< tt) (lit≤ tt) b.1, e)
-
--- `days_in`
-pub leap_month : (year month : ℕ) (t : Bool) → month ≡ 2 → t ≡ is_leap year → t ≡ true → 29 ≡ days_in year month
-unfolding days_in
-leap_month year month t h e f = rw (h, ← e, f)
-
-pub short_month : (year month : ℕ) (t : Bool) → month ≡ 2 → t ≡ is_leap year → t ≡ false → 28 ≡ days_in year month
-unfolding days_in
-short_month year month t h e f = rw (h, ← e, f)
-
-pub thirty_days : (year month : ℕ) → (month ≡ 2 → ⊥) → (eqb month 4 || eqb month 6 || eqb month 9 || eqb month 11) ≡ true → 30 ≡ days_in year month
-unfolding days_in
-thirty_days year month n e = rw (ne_eqb month 2 n, e)
-
-pub other_month : (year month : ℕ) → (month ≡ 2 → ⊥) → (eqb month 4 || eqb month 6 || eqb month 9 || eqb month 11) ≡ false → 31 ≡ days_in year month
-unfolding days_in
-other_month year month n e = rw (ne_eqb month 2 n, e)
-
--- `is_date`
-pub date_judged : (n last : ℕ) → last ≡ days_in (year_of n) (month_of n) → (within 1 9999 (year_of n) && within 1 12 (month_of n) && within 1 last (day_of n)) ≡ date_fits n
-unfolding date_fits
-date_judged n last e = rw e
-
--- `dated`
-pub dated_yes : (n next : ℕ) (b : Bool) → b ≡ date_fits n → b ≡ true → value n next ≡ day_judged next (Some n)
-unfolding day_judged
-dated_yes n next b e t = rw (← e, t)
-
-pub dated_no : (n next : ℕ) (b : Bool) → b ≡ date_fits n → b ≡ false → Err Range ≡ day_judged next (Some n)
-unfolding day_judged
-dated_no n next b e t = rw (← e, t)

@@ -2,7 +2,7 @@
 use Prim.Native.Nat.{ℕ, zero, suc, ◌+◌, ◌-◌, ◌*◌, ◌%◌, ◌^◌, ◌≤◌, ◌<◌, min, max}
 use mathlib.Core.Path.{◌≡◌, refl, sym, ap, ◌∙◌}
 use mathlib.Core.List.{List, [], ◌∷◌}
-use mathlib.Core.Bool.{Bool, true, false, not, ◌&&◌, ◌||◌}
+use mathlib.Core.Bool.{Bool, true, false, not, ◌&&◌}
 use native.Mathlib.Omega.{arith}
 use native.Mathlib.Numerals.{add-one}
 use lib.ListN.{length, get_or, take, drop, length-take, length-drop, drop_of_length-le}
@@ -20,7 +20,7 @@ use Rattle.fields.specs.declared.field.Field.{Field}
 use Rattle.fields.specs.declared.field.Fault.TheVariants.{Form}
 use Rattle.fields.specs.declared.spelling.Spelling.{Spelling}
 use Rattle.fields.specs.declared.spelling.Spelling.TheVariants.{Decimal, Hex4, Hex16, Factor}
-use Rattle.fields.proofs.Cases.{by_test, by_lt, absurd_by}
+use Rattle.fields.proofs.Cases.{by_test, by_lt}
 use Rattle.fields.proofs.Reading.{digit_low, digit_high, digit_gap, digit_decimal, digit_letter, digits_short, bytes_long, digits_start, digits_again, digits_wrong, digits_end, said_within, grown_less, grown_fits}
 
 -- `is_digit`
@@ -49,7 +49,7 @@ digit_taken b t e n =
     by_lt b 48 (λ h. let d = digit_low b h in absurd (omega arith))
     (λ h. by_lt b 58 (λ k. record { low = h; value = digit_decimal b h k; small = s }) (λ k. let d = digit_past b k in absurd (omega arith)))
 
--- `larger`
+-- the larger of two
 pub larger_second : (a b : ℕ) → a < b → b ≡ pick (ltb a b) b a
 larger_second a b h = rw (lt-ltb a b h)
 
@@ -210,19 +210,6 @@ module _ (text : List ℕ) (at n end low high : ℕ) (run : Run text at n end) w
     pub here_decimal : (r : Result Field Fault) → (eqb (get_or text at 0) 48 && ltb (at + 1) end) ≡ false → r ≡ judge Decimal low high end (Some n) → r ≡ read_here text at Decimal low high
     unfolding start_of said_by decimal_said
     here_decimal r e j = here_said text at Decimal low high n end r run.0 (rw (plain_is e) run.1) j
-
--- `nibble`
-pub nibble_gap : (b : ℕ) → 58 ≤ b → (ltb b 65 || ltb 70 b) ≡ true → 16 ≡ digit_of b
-nibble_gap b h e =
-    let g : 57 < b = omega arith in
-    by_lt b 65 (λ m. digit_gap b (rw (lt-ltb 57 b g, lt-ltb b 65 m)))
-    (λ m. by_lt 70 b (λ k. digit_high b k) (λ k. let z = rw (le-ltb b 65 m, le-ltb 70 b k) at e in absurd_by (cc)))
-
-pub nibble_letter : (b : ℕ) → 58 ≤ b → (ltb b 65 || ltb 70 b) ≡ false → b - 55 ≡ digit_of b
-nibble_letter b h e =
-    let g : 57 < b = omega arith in
-    by_lt b 65 (λ m. let z = rw (lt-ltb b 65 m) at e in absurd_by (cc))
-    (λ m. by_lt 70 b (λ k. let z = rw (le-ltb b 65 m, lt-ltb 70 b k) at e in absurd_by (cc)) (λ k. digit_letter b k h (rw (lt-ltb 57 b g, le-ltb b 65 m))))
 
 -- `float_here`
 pub sixteen_are : (text f : List ℕ) (at : ℕ) → at ≤ length text → IsFirstChunk (take (length text - at) (drop at text)) f 16 → (f ≡ take 16 (drop at text)) × (at + 16 ≤ length text)

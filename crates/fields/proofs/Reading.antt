@@ -9,7 +9,7 @@ use native.Mathlib.Nat.{pow-suc, pow-le-pow_right, mul-le-mul_left, mul_assoc}
 use lib.ListN.{length, get_or, take, drop, length-append, length-take, length-drop, drop_of_length-le, take-append-drop}
 use lib.Seq.{drop-cons, drop-drop, take_all, length-take-le}
 use lib.Dec.{eqb, ltb, leb, lit<}
-use borrow.Author.Tests.{lt-ltb, le-ltb, ltb-true, eq-eqb, ne_eqb, eqb-true, eqb-false, le-leb, lt-leb, not-true, not-false}
+use borrow.Author.Tests.{lt-ltb, le-ltb, ltb-true, eq-eqb, ne_eqb, eqb-true, eqb-false, lt-leb, not-true, not-false}
 use Rattle.std.specs.Prelude.{slice_range, Option, Some, None, Result, Err}
 use Rattle.units.specs.Limits.{label_top}
 use Rattle.units.proofs.Every.{and_left, and_right}
@@ -180,7 +180,7 @@ module _ (base k n : ℕ) (cs : List ℕ) (b : base ≤ 16) where
         rw (ne_eqb (length (first_field cs)) k (omega arith))
 
 -- `read_hex`
-pub hex_room : (k : ℕ) → k ≤ 16 → (0 + 1) * 16 ^ k ≤ 2 ^ 64
+pub hex_room : (k : ℕ) → k ≤ 16 → 16 ^ k ≤ 2 ^ 64
 hex_room k h = let p = pow-le-pow_right {n = 16} (lit< tt) {i = k} {j = 16} h in omega arith
 
 pub hex_within : (text : List ℕ) (at k n : ℕ) (d : Option ℕ) → 0 < k → d ≡ fixed_in 16 k 0 (take k (drop at text)) → d ≡ Some n → at + k ≤ length text
@@ -314,19 +314,6 @@ unfolding digit_of
 digit_letter b h k e =
     let h1 : 48 ≤ b = omega arith in let h2 : 57 < b = omega arith in let h3 : b < 71 = omega arith in
     rw (le-ltb b 48 h1, le-ltb b 58 k, rw (lt-ltb 57 b h2) at e, lt-ltb b 71 h3)
-
--- `read_digits`
-pub digits_few : (text : List ℕ) (at n : ℕ) → n < 1 → None ≡ digits_at text at n
-unfolding digits_at
-digits_few text at n h = rw (lt-leb 1 n h)
-
-pub digits_many : (text : List ℕ) (at n : ℕ) → 16 < n → None ≡ digits_at text at n
-unfolding digits_at
-digits_many text at n h = rw (le-leb 1 n (omega arith), lt-leb n 16 h)
-
-pub digits_made : (text : List ℕ) (at n : ℕ) (r : Option ℕ) → 1 ≤ n → n ≤ 16 → r ≡ fixed_in 10 n 0 (take n (drop at text)) → r ≡ digits_at text at n
-unfolding digits_at
-digits_made text at n r l m e = rw (le-leb 1 n l, le-leb n 16 m) e
 
 -- `read_day` and `whole_day`: eight digits
 eight : (text : List ℕ) (at : ℕ) → digits_at text at 8 ≡ fixed_in 10 8 0 (take 8 (drop at text))

@@ -9,7 +9,7 @@ use lib.ListN.{length, take, drop, set}
 use lib.Seq.{sets, sets-eq, drop-drop}
 use borrow.Rule.Slice.PartMut.{post_of, put_mid}
 use lib.Dec.{leb, lit<}
-use borrow.Author.Tests.{le-leb, lt-leb, leb-true, leb-false, lt-ltb, le-ltb, not-true, not-false}
+use borrow.Author.Tests.{le-leb, lt-leb, leb-true, leb-false, not-true, not-false}
 use Rattle.units.specs.Limits.{factor_digits, factor_scale}
 use Rattle.fields.specs.Digits.{char_of, fixed, decimal}
 use Rattle.fields.specs.Field.{pointed, spelled, limit}
@@ -20,15 +20,6 @@ use Rattle.fields.proofs.Cases.{by_lt}
 use Rattle.fields.proofs.Numbers.{fixed_length, fixed_top, decimal_small, decimal_below, decimal_short, decimal_fixed}
 use Rattle.fields.proofs.Spellings.{pointed_long}
 use Rattle.fields.proofs.Puts.{set_sets, put_room, end_room, put_none, end_none, put_empty, end_empty, written_is, written_none}
-
--- `byte_of`
-pub byte_decimal : (d : ℕ) → d < 10 → 48 + d ≡ char_of d
-unfolding char_of
-byte_decimal d h = rw (lt-ltb d 10 h)
-
-pub byte_letter : (d : ℕ) → 10 ≤ d → 55 + d ≡ char_of d
-unfolding char_of
-byte_letter d h = rw (le-ltb d 10 h)
 
 -- `has_room`
 pub room_none : (len at k : ℕ) → len < at → false ≡ leb (at + k) len

@@ -13,7 +13,7 @@ digit_of b = pick (ltb b 48) 16 (pick (ltb b 58) (b - 48) (pick (ltb b 65) 16 (p
 unfoldable pub char_of : ℕ → ℕ
 char_of d = pick (ltb d 10) (48 + d) (55 + d)
 
--- the number that bytes say as digits to a base, after digits that say n; Wrong where one is no digit
+-- the number that bytes say as digits to a base, after digits that say n; none where one is no digit
 unfoldable pub value_from : ℕ → ℕ → List ℕ → Option ℕ
 value_from base n [] = Some n
 value_from base n (c ∷ cs) = pick (ltb (digit_of c) base) (value_from base (n * base + digit_of c) cs) None

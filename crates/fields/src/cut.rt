@@ -10,6 +10,7 @@ use units::limits::LINE;
 pub const HELD: usize = LINE + 1;
 
 // The first `len` bytes count.
+// A length beside its bytes: fixed memory, by value, and handed out whole (`bytes`).
 #[derive(Clone, Copy)]
 pub struct Carry {
     pub(crate) len: usize,
@@ -17,6 +18,7 @@ pub struct Carry {
 }
 
 // What is held after a piece, how much of the piece that took, and whether the line ended with it.
+// Each of them counts whether the line ended or not (`cut_at`).
 #[derive(Clone, Copy)]
 pub struct Cut {
     pub carry: Carry,
@@ -25,6 +27,7 @@ pub struct Cut {
 }
 
 // How many of n more bytes are held.
+#[tactic(auto, using(crate::proofs::Holding::fitting_least))]
 fn fitting(len: usize, n: usize) -> usize
     ensures { result ≡ Rattle.fields.specs.Cut.fitting len n }
 {
@@ -65,8 +68,7 @@ impl Carry {
     pub fn emptied(self) -> Carry
         ensures { result ≡ emptied self }
     {
-        let bytes = self.bytes;
-        Carry { len: 0, bytes }
+        Carry { len: 0, ..self }
     }
 
     // Holds the first n bytes of an input too.
@@ -83,8 +85,7 @@ impl Carry {
     pub fn cut(self, piece: &[u8]) -> Cut
         ensures { result ≡ cut_at self piece.now }
     {
-        let seen = scan(piece);
-        let feed = seen.feed;
+        let feed = scan(piece).feed;
         if feed == piece.len() {
             let carry = self.hold(piece, feed);
             return Cut {

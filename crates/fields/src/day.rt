@@ -13,26 +13,24 @@ pub const DAY_DIGITS: usize = 8;
 fn is_leap(year: u64) -> bool
     ensures { result ≡ is_leap year }
 {
-    (year % 4 == 0) & ((year % 100 != 0) | (year % 400 == 0))
+    year % 4 == 0 && (year % 100 != 0 || year % 400 == 0)
 }
 
 // How many days a month has.
+#[tactic(auto, unfolding(crate::specs::Day::days_in, crate::specs::Digits::pick))]
 fn days_in(year: u64, month: u64) -> u64
     ensures { result ≡ days_in year month }
 {
-    if month == 2 {
-        if is_leap(year) {
-            return 29;
-        }
-        return 28;
+    match month {
+        2 if is_leap(year) => 29,
+        2 => 28,
+        4 | 6 | 9 | 11 => 30,
+        _ => 31,
     }
-    if (month == 4) | (month == 6) | (month == 9) | (month == 11) {
-        return 30;
-    }
-    31
 }
 
 // Whether there is such a date.
+#[tactic(auto, unfolding(crate::specs::Day::date_fits, units::specs::Within::within))]
 fn is_date(n: u64) -> bool
     ensures { result ≡ date_fits n }
 {
@@ -40,10 +38,11 @@ fn is_date(n: u64) -> bool
     let month = n / 100 % 100;
     let day = n % 100;
     let last = days_in(year, month);
-    ((1 <= year) & (year <= 9999)) & ((1 <= month) & (month <= 12)) & ((1 <= day) & (day <= last))
+    (1..=9999).contains(&year) && (1..=12).contains(&month) && (1..=last).contains(&day)
 }
 
 // The day that eight digits say.
+#[tactic(auto, unfolding(crate::specs::Day::day_judged, crate::specs::Digits::pick))]
 fn dated(n: u64, next: usize) -> Result<Field, Fault>
     ensures { result ≡ day_judged next (Some n) }
 {

@@ -7,7 +7,7 @@ ghost use Rattle.fields.specs.declared.spelling.Spelling.{Spelling};
 
 use crate::digit::digit;
 use crate::field::{Fault, Field, judged};
-use crate::spelling::Spelling;
+use crate::spelling::{Limit, Spelling};
 use crate::text::{TAB, ends_at};
 use units::limits::LABEL_TOP;
 
@@ -18,7 +18,7 @@ pub(crate) fn is_plain(text: &[u8], at: usize) -> bool
     if ends_at(text, at) {
         return false;
     }
-    if text[at] != 48 {
+    if text[at] != b'0' {
         return true;
     }
     ends_at(text, at + 1)
@@ -31,24 +31,30 @@ pub(crate) fn read_decimal(text: &[u8], at: usize, low: u64, high: u64) -> Resul
     if !is_plain(text, at) {
         return Err(Fault::Form);
     }
+    let limit = Limit {
+        spelling: Spelling::Decimal,
+        low,
+        high,
+    };
     let mut n: u64 = 0;
     for i in at..text.len() {
         let b = text[i];
         if b == TAB {
-            return judged(Spelling::Decimal, low, high, n, i + 1);
+            return judged(limit, n, i + 1);
         }
         let d = digit(b);
         if 9 < d {
             return Err(Fault::Form);
         }
-        if n <= (LABEL_TOP as u64) {
+        if n <= u64::from(LABEL_TOP) {
             n = n * 10 + d;
         }
     }
-    judged(Spelling::Decimal, low, high, n, text.len() + 1)
+    judged(limit, n, text.len() + 1)
 }
 
 // How many digits a number has.
+#[tactic(auto, using(crate::proofs::Writing::width_power))]
 pub(crate) fn decimal_width(n: u64) -> usize
     ensures { result ≡ length (decimal n) }
 {

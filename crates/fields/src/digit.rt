@@ -3,66 +3,57 @@ ghost use Rattle.std.specs.Prelude.{◌≡◌, ◌+◌, ◌*◌, ◌^◌, ◌≤
 ghost use Rattle.std.proofs.lemmas.List.Edits.{sets};
 ghost use Rattle.fields.specs.Digits.{char_of, digit_of, digits_at, fixed, fixed_in};
 
-// The value of a decimal or upper-case hex digit, 16 of any other byte.
+// The value of a decimal or upper-case hex digit, 16 of any other byte; a number and no Option by `digit_of`, of which `paper_refused` names the 16.
+#[tactic(auto, unfolding(crate::specs::Digits::digit_of, crate::specs::Digits::pick))]
 pub(crate) fn digit(b: u8) -> u64
     ensures { result ≡ digit_of b }
 {
-    if b < 48 {
-        return 16;
-    }
-    if 70 < b {
-        return 16;
-    }
-    if (57 < b) & (b < 65) {
-        return 16;
-    }
-    if b < 58 {
-        (b - 48) as u64
-    } else {
-        (b - 55) as u64
+    match b {
+        b'0'..=b'9' => u64::from(b - b'0'),
+        b'A'..=b'F' => u64::from(b - b'A') + 10,
+        _ => 16,
     }
 }
 
 // The byte of a digit.
+#[tactic(auto, unfolding(crate::specs::Digits::char_of, crate::specs::Digits::pick))]
 pub(crate) fn byte_of(d: u64) -> u8
     requires { d < 16 }
     ensures { result ≡ char_of d }
 {
     if d < 10 {
-        (48 + d) as u8
+        b'0' + d as u8
     } else {
-        (55 + d) as u8
+        b'A' - 10 + d as u8
     }
 }
 
-// The number that the k bytes from a place on say as digits to a base, after digits that say `from`.
-pub(crate) fn digits_at(text: &[u8], at: usize, k: usize, base: u64, from: u64) -> Option<u64>
-    requires { (0 < k) × (base ≤ 16) × ((from + 1) * 16 ^ k ≤ 2 ^ 64) }
-    ensures { result ≡ fixed_in base k from (take k (drop at text.now)) }
+// The number that the k bytes from a place on say as digits to a base.
+pub(crate) fn digits_at<const BASE: u64>(text: &[u8], at: usize, k: usize) -> Option<u64>
+    requires { (0 < k) × (BASE ≤ 16) × (16 ^ k ≤ 2 ^ 64) }
+    ensures { result ≡ fixed_in BASE k 0 (take k (drop at text.now)) }
 {
     let digits = text.get(at..)?.get(..k)?;
-    let mut n = from;
+    let mut n = 0;
     for b in digits {
         let d = digit(*b);
-        if base <= d {
+        if BASE <= d {
             return None;
         }
-        n = n * base + d;
+        n = n * BASE + d;
     }
     Some(n)
 }
 
 // The number that exactly n decimal digits at a place say, 1 to 16 of them, whatever comes after.
+#[tactic(auto, using(crate::proofs::Reading::hex_room), unfolding(crate::specs::Digits::digits_at, crate::specs::Digits::pick))]
 pub fn read_digits(text: &[u8], at: usize, n: usize) -> Option<u64>
     ensures { result ≡ digits_at text.now at n }
 {
-    if n < 1 {
+    if !(1..=16).contains(&n) {
         return None;
     }
-    if 16 < n {
-        return None;
-    }
-    digits_at(text, at, n, 10, 0)
+    digits_at::<10>(text, at, n)
 }
 
 // Puts the last k digits of a number to a base, from the last to the first.

@@ -7,11 +7,11 @@ ghost use Rattle.fields.specs.declared.spelling.Spelling.{Spelling};
 use crate::digit::{byte_of, digit, put_fixed};
 use crate::field::{Fault, Field, judged};
 use crate::put::has_room;
-use crate::spelling::Spelling;
+use crate::spelling::{Limit, Spelling};
 use crate::text::ends_at;
 use units::limits::{FACTOR_DIGITS, FACTOR_SCALE};
 
-pub const POINT: u8 = 46;
+pub const POINT: u8 = b'.';
 
 // The factor whose six bytes stand at a place, position by position: a digit, the point, four digits, and then the field's end.
 fn factor_at(text: &[u8], at: usize, low: u64, high: u64) -> Result<Field, Fault>
@@ -45,10 +45,16 @@ fn factor_at(text: &[u8], at: usize, low: u64, high: u64) -> Result<Field, Fault
         return Err(Fault::Form);
     }
     let n = 10000 * ones + 1000 * tenths + 100 * hundredths + 10 * thousandths + last;
-    judged(Spelling::Factor, low, high, n, at + 7)
+    let limit = Limit {
+        spelling: Spelling::Factor,
+        low,
+        high,
+    };
+    judged(limit, n, at + 7)
 }
 
 // The factor at a place.
+#[tactic(auto, using(crate::proofs::Positions::position_none))]
 pub fn read_factor(text: &[u8], at: usize, low: u64, high: u64) -> Result<Field, Fault>
     ensures { result ≡ read_at text.now at Spelling.Factor low high }
 {
@@ -62,7 +68,7 @@ pub fn read_factor(text: &[u8], at: usize, low: u64, high: u64) -> Result<Field,
 pub fn put_factor(buf: &mut [u8], at: usize, n: u64) -> usize
     ensures { (result ≡ put_end buf.old at (written Spelling.Factor n)) × (buf.new ≡ put buf.old at (written Spelling.Factor n)) }
 {
-    let whole = n / (FACTOR_SCALE as u64);
+    let whole = n / u64::from(FACTOR_SCALE);
     if 9 < whole {
         return at;
     }

@@ -2,7 +2,7 @@
 ghost use Rattle.std.specs.Prelude.{◌≡◌};
 ghost use Rattle.fields.specs.Field.{judge, refusal_of};
 
-use crate::spelling::{Spelling, in_range};
+use crate::spelling::Limit;
 use units::Refusal;
 
 // The number of a field that is read, and where the next field starts.
@@ -31,16 +31,11 @@ impl From<Fault> for Refusal {
 }
 
 // The number of a field that has its form.
-pub(crate) fn judged(
-    spelling: Spelling,
-    low: u64,
-    high: u64,
-    n: u64,
-    next: usize,
-) -> Result<Field, Fault>
-    ensures { result ≡ judge spelling low high next (Some n) }
+#[tactic(auto, unfolding(crate::specs::Field::judge, crate::specs::Digits::pick))]
+pub(crate) fn judged(limit: Limit, n: u64, next: usize) -> Result<Field, Fault>
+    ensures { result ≡ judge limit.spelling limit.low limit.high next (Some n) }
 {
-    if in_range(spelling, low, high, n) {
+    if limit.holds(n) {
         return Ok(Field { n, next });
     }
     Err(Fault::Range)

@@ -27,6 +27,6 @@ pub use line::scan;
 pub use put::put_part;
 pub use quick::{read_decimal_here, read_here};
 pub use read::read_at;
-pub use spelling::Spelling;
+pub use spelling::{Limit, Spelling};
 pub use text::Scan;
 pub use write::{put_at, width};

@@ -12,7 +12,7 @@ pub(crate) fn has_room(len: usize, at: usize, k: usize) -> bool
     k <= len - at
 }
 
-// Puts all bytes of a slice; the answer is the place after them.
+// Puts all bytes of a slice; the answer is the place after them, and by `put_end` the place itself where nothing is put.
 pub fn put_part(buf: &mut [u8], at: usize, from: &[u8]) -> usize
     ensures { (result ≡ put_end buf.old at from.now) × (buf.new ≡ put buf.old at from.now) }
 {

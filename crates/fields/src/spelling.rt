@@ -18,17 +18,28 @@ impl Spelling {
         ensures { result ≡ limit self }
     {
         match self {
-            Spelling::Decimal => LABEL_TOP as u64,
+            Spelling::Decimal => LABEL_TOP.into(),
             Spelling::Hex4 => 0xffff,
-            Spelling::Hex16 => 0xffff_ffff_ffff_ffff,
-            Spelling::Factor => 10 * (FACTOR_SCALE as u64) - 1,
+            Spelling::Hex16 => u64::MAX,
+            Spelling::Factor => 10 * u64::from(FACTOR_SCALE) - 1,
         }
     }
 }
 
-// Whether n is one of low..high, and no more than the limit.
-pub(crate) fn in_range(spelling: Spelling, low: u64, high: u64, n: u64) -> bool
-    ensures { result ≡ fits spelling low high n }
-{
-    (low <= n) & (n <= high) & (n <= spelling.limit())
+// A field's spelling, and the range of its number, both ends among it. What reads one spelling alone takes low and high: a Limit would bring a spelling of its own.
+#[derive(Clone, Copy)]
+pub struct Limit {
+    pub spelling: Spelling,
+    pub low: u64,
+    pub high: u64,
+}
+
+impl Limit {
+    // Whether n is one of low..high, and no more than the spelling's limit.
+    #[tactic(auto, unfolding(crate::specs::Field::fits))]
+    pub(crate) fn holds(self, n: u64) -> bool
+        ensures { result ≡ fits self.spelling self.low self.high n }
+    {
+        self.low <= n && n <= self.high && n <= self.spelling.limit()
+    }
 }

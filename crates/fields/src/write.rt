@@ -10,6 +10,7 @@ use crate::spelling::Spelling;
 use units::limits::FACTOR_DIGITS;
 
 // How many bytes a number's spelling has; 0 above the spelling's limit.
+#[tactic(auto, using(crate::proofs::Writing::width_none, crate::proofs::Writing::width_decimal, crate::proofs::Writing::width_hex4, crate::proofs::Writing::width_hex16, crate::proofs::Writing::width_factor))]
 pub fn width(spelling: Spelling, n: u64) -> usize
     ensures { result ≡ length (written spelling n) }
 {

@@ -1,5 +1,5 @@
 -- Values handed in "with anything out of range get 6, before all else": what is in range here, and what is answered.
-use Rattle.std.specs.Prelude.{ℕ, Bool, ◌&&◌, List, nat_lt, slice_index, Result, Ok, Err}
+use Rattle.std.specs.Prelude.{ℕ, Bool, ◌&&◌, List, nat_lt, replicate, slice_index, Result, Ok, Err}
 use Rattle.units.specs.declared.labels.RoundLabel.{RoundLabel}
 use Rattle.units.specs.declared.labels.StateLabel.{StateLabel}
 use Rattle.units.specs.declared.estimate.Estimate.{Estimate}
@@ -13,6 +13,7 @@ use Rattle.units.specs.Pick.{pick}
 use Rattle.units.specs.Reading.{reading_place}
 use Rattle.units.specs.Every.{every}
 use Rattle.units.specs.Settings.{numbers_fit}
+use Rattle.floats.specs.Bits.{nought}
 use Rattle.floats.specs.Ranges.{state_fits}
 use Rattle.filter.specs.declared.compute.Computed.{Computed}
 use Rattle.filter.specs.Compute.{computed}
@@ -36,3 +37,8 @@ unfoldable pub checked : RoundLabel → StateLabel → List Estimate → Numbers
 unfolding computing_fits
 checked label base state s chosen readings =
     pick (computing_fits label base state s chosen readings) (Ok (computed label base state s chosen readings)) (Err Range)
+
+-- what stands after computing: what it gave, or the state as it was and every target +0
+abbrev pub left : List Estimate → Result Computed Refusal → Computed
+left state (Ok c) = c
+left state (Err why) = record { state = state; targets = replicate runs_top nought }

@@ -2,11 +2,11 @@
 ghost use Rattle.std.specs.Prelude.{◌≡◌};
 ghost use Rattle.filter.specs.Checked.{checked, computing_fits, readings_fit};
 
-use crate::compute::{Computed, compute};
+use crate::compute::{Computed, Round, compute};
 use floats::ranges::state_in_range;
+use units::Refusal;
 use units::mask::mask_in_range;
 use units::reading::reading_place;
-use units::{Estimate, Numbers, Refusal, RoundLabel, StateLabel};
 
 pub(crate) fn readings_in_range(m: usize, readings: [u32; 16]) -> bool
     ensures { result ≡ readings_fit m readings }
@@ -18,35 +18,23 @@ pub(crate) fn readings_in_range(m: usize, readings: [u32; 16]) -> bool
 }
 
 #[tactic(auto, unfolding(crate::specs::Checked::computing_fits))]
-fn computing_in_range(
-    label: RoundLabel,
-    base: StateLabel,
-    state: [Estimate; 16],
-    numbers: Numbers,
-    chosen: u32,
-    readings: [u32; 16],
-) -> bool
-    ensures { result ≡ computing_fits label base state numbers chosen readings }
+fn computing_in_range(round: Round) -> bool
+    ensures { result ≡ computing_fits round.label round.base round.state round.numbers round.chosen round.readings }
 {
-    let m = numbers.group.m;
-    let station = numbers.in_range() & state_in_range(state, m);
-    let round = base.before(label) & mask_in_range(m, chosen) & readings_in_range(m, readings);
-    station & round
+    let m = round.numbers.group.m;
+    let station = round.numbers.in_range() && state_in_range(round.state, m);
+    station
+        && (round.base.before(round.label)
+            && mask_in_range(m, round.chosen)
+            && readings_in_range(m, round.readings))
 }
 
-#[tactic(auto, using(crate::proofs::Inputs::checked_in, crate::proofs::Inputs::checked_out))]
-pub fn compute_checked(
-    label: RoundLabel,
-    base: StateLabel,
-    state: [Estimate; 16],
-    numbers: Numbers,
-    chosen: u32,
-    readings: [u32; 16],
-) -> Result<Computed, Refusal>
-    ensures { result ≡ checked label base state numbers chosen readings }
+#[tactic(auto, unfolding(crate::specs::Checked::checked, units::specs::Pick::pick))]
+pub fn compute_checked(round: Round) -> Result<Computed, Refusal>
+    ensures { result ≡ checked round.label round.base round.state round.numbers round.chosen round.readings }
 {
-    if computing_in_range(label, base, state, numbers, chosen, readings) {
-        Ok(compute(label, base, state, numbers, chosen, readings))
+    if computing_in_range(round) {
+        Ok(compute(round))
     } else {
         Err(Refusal::Range)
     }

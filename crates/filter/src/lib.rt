@@ -8,5 +8,5 @@ pub mod run;
 pub mod runs;
 pub mod share;
 
-pub use compute::Computed;
+pub use compute::{Computed, Round};
 pub use run::Outcome;

@@ -10,7 +10,7 @@ pub(crate) fn product(a: u32, b: u32) -> f64
     std::num::nearest_u64_to_f64(u64::from(a) * u64::from(b))
 }
 
-// v, or the limit where v exceeds it.
+// v, or the limit where v exceeds it. Not `min`, which answers a NaN otherwise than `at_most` does.
 #[tactic(auto, unfolding(crate::specs::Run::at_most))]
 pub(crate) fn at_most(top: f64, v: f64) -> f64
     ensures { result ≡ at_most top v }
@@ -18,7 +18,7 @@ pub(crate) fn at_most(top: f64, v: f64) -> f64
     if top < v { top } else { v }
 }
 
-// v held within +0 and the limit.
+// v held within +0 and the limit. Not `clamp`, which answers a NaN and -0 otherwise than `limited` does.
 #[tactic(auto, unfolding(crate::specs::Run::limited))]
 pub(crate) fn limit(top: f64, v: f64) -> f64
     ensures { result ≡ limited top v }

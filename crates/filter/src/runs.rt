@@ -36,12 +36,16 @@ pub(crate) fn runs_after(
 ) -> [Estimate; 16]
     ensures { result ≡ runs_after state n numbers chosen readings }
 {
-    let m = numbers.group.m;
-    let q = numbers.q;
-    let r = numbers.r;
-    let factors = numbers.factors;
     std::array::from_fn(|i| {
-        let (used, taken) = (i < m, has(chosen, i));
-        place_after(used, state[i], n, q, r, taken, readings[i], factors[i])
+        place_after(
+            i < numbers.group.m,
+            state[i],
+            n,
+            numbers.q,
+            numbers.r,
+            has(chosen, i),
+            readings[i],
+            numbers.factors[i],
+        )
     })
 }

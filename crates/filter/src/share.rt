@@ -45,8 +45,6 @@ fn share_of(used: bool, total: f64, weight: u32, sum: u64) -> f64
 pub(crate) fn targets_of(total: f64, numbers: Numbers) -> [f64; 16]
     ensures { result ≡ targets total numbers }
 {
-    let m = numbers.group.m;
-    let weights = numbers.weights;
-    let sum = weight_sum(m, weights);
-    std::array::from_fn(|i| share_of(i < m, total, weights[i], sum))
+    let sum = weight_sum(numbers.group.m, numbers.weights);
+    std::array::from_fn(|i| share_of(i < numbers.group.m, total, numbers.weights[i], sum))
 }

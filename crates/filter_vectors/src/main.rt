@@ -5,11 +5,11 @@
 
 ghost use Rattle.std.specs.Prelude.{◌<◌, ◌≤◌};
 
-use filter::Computed;
 use filter::checked::compute_checked;
+use filter::{Computed, Round};
 use floats::bits::{VARIANCE_BITS, X_BITS, bits_of, float_of};
 use std::{array, io};
-use units::limits::{FACTOR_LOW, FACTOR_TOP, FIRST_TOP, NOISE_TOP, RAW_TOP, WEIGHT_TOP};
+use units::limits::{FACTOR_LOW, FACTOR_TOP, FIRST_TOP, NOISE_TOP, RAW_TOP, RUNS, WEIGHT_TOP};
 use units::{Estimate, Group, Numbers, Refusal, RoundLabel, StateLabel};
 
 // A turn of xorshift64.
@@ -21,7 +21,7 @@ fn turn(s: u64) -> u64 {
 
 // Draw k of round n.
 fn draw(n: u32, k: u32) -> u64 {
-    let place = ((n % 65536) as u64) * 128 + ((k % 128) as u64) + 1;
+    let place = u64::from(n % 65536) * 128 + u64::from(k % 128) + 1;
     turn(turn(turn(place * 0x9e_3779_b97f)))
 }
 
@@ -29,7 +29,7 @@ fn draw(n: u32, k: u32) -> u64 {
 fn cut(d: u64, most: u32) -> u32
     ensures { result ≤ most }
 {
-    (d % (most as u64 + 1)) as u32
+    (d % (u64::from(most) + 1)) as u32
 }
 
 // A number of low..=top: an end, one near the lower end, or any.
@@ -82,18 +82,21 @@ fn settings(station: u32) -> Numbers {
     }
 }
 
+// What stands where no run is.
+const BLANK: Estimate = Estimate {
+    x: 0.0,
+    variance: 0.0,
+};
+
 // A run's estimate at the station's start: document 01's, or any in range; nothing where the place is no run.
 fn first(run: bool, plain: bool, p: u32, dx: u64, dv: u64) -> Estimate {
     if !run {
-        return Estimate {
-            x: 0.0,
-            variance: 0.0,
-        };
+        return BLANK;
     }
     if plain {
         return Estimate {
-            x: 0.0,
-            variance: p as f64,
+            variance: f64::from(p),
+            ..BLANK
         };
     }
     Estimate {
@@ -200,31 +203,20 @@ fn play(rt: &impl Print, station: u32) -> io::Result<()> {
     for i in 0..16 {
         let n = station % 4096 * 16 + i;
         let d = draw(n, 83);
-        let c = compute_checked(
-            RoundLabel(label_of(d)),
-            StateLabel(base_of(d)),
+        let c = compute_checked(Round {
+            label: RoundLabel(label_of(d)),
+            base: StateLabel(base_of(d)),
             state,
             numbers,
-            chosen_of(draw(n, 84), m),
-            readings_of(n, m),
-        );
+            chosen: chosen_of(draw(n, 84), m),
+            readings: readings_of(n, m),
+        });
         if let Ok(computed) = c {
             state = computed.state;
         }
         show(rt, m, c)?;
     }
     Ok(())
-}
-
-// A round, as `compute_checked` takes it.
-#[derive(Clone, Copy)]
-struct Round {
-    label: u32,
-    base: u32,
-    state: [Estimate; 16],
-    numbers: Numbers,
-    chosen: u32,
-    readings: [u32; 16],
 }
 
 // What is changed in a round in range, so that one clause of "in range" is broken: a number, or what stands at a run.
@@ -294,13 +286,6 @@ fn two_readings() -> [u32; 16] {
     readings
 }
 
-// What stands at place i, where there is such a place.
-fn put<T: Copy>(places: &mut [T], i: usize, x: T) {
-    if i < places.len() {
-        places[i] = x;
-    }
-}
-
 fn changed(round: Round, odd: Odd) -> Round {
     let mut next = round;
     match odd {
@@ -310,22 +295,14 @@ fn changed(round: Round, odd: Odd) -> Round {
         Odd::Q(n) => next.numbers.q = n,
         Odd::R(n) => next.numbers.r = n,
         Odd::P(n) => next.numbers.p = n,
-        Odd::Factor(run, n) => put(&mut next.numbers.factors, run, n),
-        Odd::Weight(run, n) => put(&mut next.numbers.weights, run, n),
-        Odd::X(run, x) => {
-            if let Some(e) = next.state.get_mut(run) {
-                e.x = x;
-            }
-        }
-        Odd::Variance(run, variance) => {
-            if let Some(e) = next.state.get_mut(run) {
-                e.variance = variance;
-            }
-        }
-        Odd::Base(n) => next.base = n,
-        Odd::Label(n) => next.label = n,
+        Odd::Factor(run, n) => next.numbers.factors[run % RUNS] = n,
+        Odd::Weight(run, n) => next.numbers.weights[run % RUNS] = n,
+        Odd::X(run, x) => next.state[run % RUNS].x = x,
+        Odd::Variance(run, variance) => next.state[run % RUNS].variance = variance,
+        Odd::Base(n) => next.base = StateLabel(n),
+        Odd::Label(n) => next.label = RoundLabel(n),
         Odd::Chosen(mask) => next.chosen = mask,
-        Odd::Reading(run, raw) => put(&mut next.readings, run, raw),
+        Odd::Reading(run, raw) => next.readings[run % RUNS] = raw,
     }
     next
 }
@@ -336,23 +313,14 @@ fn broken(rt: &impl Print, odd: Odd) -> io::Result<()> {
     let numbers = settings(station);
     let m = numbers.group.m;
     let round = Round {
-        label: 5,
-        base: 4,
+        label: RoundLabel(5),
+        base: StateLabel(4),
         state: start(station, m, numbers.p),
         numbers,
         chosen: 5,
         readings: two_readings(),
     };
-    let r = changed(round, odd);
-    let c = compute_checked(
-        RoundLabel(r.label),
-        StateLabel(r.base),
-        r.state,
-        r.numbers,
-        r.chosen,
-        r.readings,
-    );
-    show(rt, m, c)
+    show(rt, m, compute_checked(changed(round, odd)))
 }
 
 // One run alone.
@@ -369,7 +337,14 @@ fn alone(rt: &impl Print, j: u32) -> io::Result<()> {
     show(
         rt,
         1,
-        compute_checked(RoundLabel(2), StateLabel(1), state, numbers, 1, readings),
+        compute_checked(Round {
+            label: RoundLabel(2),
+            base: StateLabel(1),
+            state,
+            numbers,
+            chosen: 1,
+            readings,
+        }),
     )
 }
 

@@ -6,6 +6,7 @@ use crate::bits::{TARGET_BITS, VARIANCE_BITS, X_BITS, bits_of};
 use crate::same::{is_blank, is_nought};
 use units::Estimate;
 
+// `&`: with `&&` the proof by limits did not close.
 #[tactic(auto, using(crate::proofs::Limits::x_limit, crate::proofs::Limits::variance_limit, crate::proofs::Limits::found_test), unfolding(crate::specs::Ranges::estimate_fits))]
 fn estimate_in_range(e: Estimate) -> bool
     ensures { result ≡ estimate_fits e }

@@ -12,7 +12,7 @@ use Rattle.units.proofs.Every.{absurd_by}
 use Rattle.message.specs.declared.head.Head.{Head}
 use Rattle.message.specs.declared.value.Message.{Message}
 use Rattle.controller.specs.declared.state.Controller.{Controller}
-use Rattle.controller.specs.Start.{start_of, started}
+use Rattle.controller.specs.Start.{start_of}
 use Rattle.controller.specs.Step.{stepped}
 use Rattle.controller_laws.specs.Outcomes.{SentBy}
 use Rattle.controller_laws.specs.Outcomes.SentBy.{query, reply, advert, update, floor, vote, setpoints}

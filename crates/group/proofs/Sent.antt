@@ -21,7 +21,7 @@ use Rattle.message.specs.View.{as_start}
 use Rattle.message.proofs.Views.{start_seen, by_kind}
 use Rattle.plan.specs.Plan.{Sent}
 use Rattle.controller.specs.declared.state.Controller.{Controller}
-use Rattle.controller.specs.declared.step.Answer.{Answer}
+use Rattle.controller.specs.Answers.{Answer}
 use Rattle.controller.specs.Sent.{sent_message}
 use Rattle.controller.specs.Start.{start_of, started}
 use Rattle.controller_laws.specs.Changes.{NoStart}

@@ -27,9 +27,9 @@ use Rattle.message.specs.Message.{message_fits}
 use Rattle.message.specs.View.{is_telling}
 use Rattle.plan.specs.Votes.{own_digest}
 use Rattle.controller.specs.declared.state.Controller.{Controller}
-use Rattle.controller.specs.declared.step.Answer.{Answer}
+use Rattle.controller.specs.Answers.{Answer}
 use Rattle.controller.specs.State.{brief_of, ballot_at}
-use Rattle.controller.specs.Start.{start_of, started}
+use Rattle.controller.specs.Start.{start_of}
 use Rattle.controller.specs.Merge.{merged_at}
 use Rattle.controller.specs.Sent.{sent_message}
 use Rattle.controller.specs.Step.{votes_with, stepped}

@@ -8,11 +8,10 @@ use mathlib.Core.Logic.{inl, inr}
 use lib.ListN.{get_or}
 use Rattle.units.specs.declared.refusal.Refusal.{Refusal}
 use Rattle.units.specs.declared.refusal.Refusal.TheVariants.{Closed}
-use Rattle.units.specs.Refusal.{Verdict}
+use Rattle.units.specs.Refusal.{Verdict, number_of}
 use Rattle.units.specs.declared.settings.Group.{Group}
 use Rattle.units.specs.declared.settings.Numbers.{Numbers}
 use Rattle.units.specs.Pick.{pick}
-use Rattle.units.specs.Refusal.{number_of}
 use Rattle.units.proofs.Every.{absurd_by}
 use Rattle.message.specs.declared.head.Head.{Head}
 use Rattle.message.specs.declared.head.Head.TheVariants.{Refused}
@@ -20,8 +19,8 @@ use Rattle.message.specs.declared.value.Message.{Message}
 use Rattle.message.specs.Message.{plain}
 use Rattle.message.proofs.Views.{start_seen, by_kind}
 use Rattle.lines.specs.declared.read.Line.{Line}
-use Rattle.lines.specs.declared.settle.Standing.{Standing}
-use Rattle.lines.specs.declared.settle.Standing.TheVariants.{More, Whole as AllSettings, Refused as NoSettings}
+use Rattle.lines.specs.Settling.{Standing}
+use Rattle.lines.specs.declared.settle.Wanted.TheVariants.{More, Whole as AllSettings}
 use Rattle.lines.specs.declared.settle.Settling.{Settling}
 use Rattle.lines.specs.Reading.{read_line}
 use Rattle.lines.specs.Table.{letter_of, kind_of}
@@ -31,7 +30,7 @@ use Rattle.lines.proofs.RoundTrip.{line_feed_lem, refusal_is}
 use Rattle.lines.proofs.Wire.{taken, text_of, line_accepted}
 use Rattle.plan.specs.Plan.{Sent}
 use Rattle.controller.specs.declared.state.Controller.{Controller}
-use Rattle.controller.specs.declared.step.Answer.{Answer}
+use Rattle.controller.specs.Answers.{Answer}
 use Rattle.controller.specs.Sent.{sent_message}
 use Rattle.controller.specs.Step.{stepped}
 use Rattle.session.specs.declared.stage.Core.{Core}
@@ -172,9 +171,9 @@ pub data Text (c : Core) : List ℕ → Type 0 where
 module _ (c : Core) where
   settles_text : (next : Settling) (told : Standing) → Text c (settles_to c next told).text
   unfolding settles_to
-  settles_text next More = silence
-  settles_text next AllSettings = silence
-  settles_text next (NoSettings why) = denial why
+  settles_text next (Ok More) = silence
+  settles_text next (Ok AllSettings) = silence
+  settles_text next (Err why) = denial why
 
   waits_text : (h : Head) → Text c (waits_for c h).text
   unfolding waits_for

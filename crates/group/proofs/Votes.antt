@@ -21,11 +21,10 @@ use Rattle.units.proofs.Every.{and_left, and_right, and_both, absurd_by}
 use Rattle.units.proofs.Tab.{length_tab, get_d_tab}
 use Rattle.units.proofs.InRange.{group_range}
 use Rattle.vote.specs.declared.digest.Digest.{Digest}
-use Rattle.vote.specs.Digest.{Ballot}
+use Rattle.vote.specs.Digest.{Ballot, legal}
 use Rattle.vote.specs.declared.votes.Seat.{Seat}
 use Rattle.vote.specs.declared.votes.Votes.{Votes}
 use Rattle.vote.specs.Decision.{decision}
-use Rattle.vote.specs.Digest.{legal}
 use Rattle.vote.specs.Vote.{Completes, Answers, ballot_of, ballots, nobody, seat_fits, votes_fit}
 use Rattle.vote.specs.Vote.Completes.{done, kept, filled}
 use Rattle.vote.proofs.Answer.{decision_exact}

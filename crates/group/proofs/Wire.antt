@@ -22,7 +22,7 @@ use Rattle.lines.proofs.Saying.{not_x_lem}
 use Rattle.lines.proofs.Wire.{taken}
 use Rattle.plan.specs.Plan.{Sent}
 use Rattle.controller.specs.declared.state.Controller.{Controller}
-use Rattle.controller.specs.declared.step.Answer.{Answer}
+use Rattle.controller.specs.Answers.{Answer}
 use Rattle.controller.specs.Sent.{with_targets, sent_message}
 use Rattle.controller.specs.Step.{stepped}
 use Rattle.controller_laws.specs.Outcomes.{SentBy}

@@ -8,7 +8,7 @@ use Rattle.message.specs.declared.head.Head.TheVariants.{Reading, Vote, Setpoint
 use Rattle.message.specs.declared.value.Message.{Message}
 use Rattle.message.specs.View.{on_issue}
 use Rattle.controller.specs.declared.state.Controller.{Controller}
-use Rattle.controller.specs.declared.step.Answer.{Answer}
+use Rattle.controller.specs.Answers.{Answer}
 use Rattle.controller.specs.Step.{stepped}
 use Rattle.controller_laws.specs.Session.{Line, line, sends, numbers}
 use Rattle.group.specs.World.{empty, after_by, World, after_answer, handed}

@@ -12,7 +12,7 @@ use Rattle.lines.specs.Reading.{read_line}
 use Rattle.lines.specs.Writing.{spell_line}
 use Rattle.plan.specs.Plan.{Sent}
 use Rattle.controller.specs.declared.state.Controller.{Controller}
-use Rattle.controller.specs.declared.step.Answer.{Answer}
+use Rattle.controller.specs.Answers.{Answer}
 use Rattle.controller.specs.Sent.{sent_message}
 use Rattle.controller.specs.Step.{stepped}
 use Rattle.group.specs.World.{WorldOf, EventOf, put, with_up, Takes, after_by, OnwardBy, confirms, rising}

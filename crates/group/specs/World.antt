@@ -11,7 +11,7 @@ use Rattle.message.specs.declared.value.Message.{Message}
 use Rattle.message.specs.View.{on_floor, on_start}
 use Rattle.plan.specs.Plan.{Sent}
 use Rattle.controller.specs.declared.state.Controller.{Controller}
-use Rattle.controller.specs.declared.step.Answer.{Answer}
+use Rattle.controller.specs.Answers.{Answer}
 use Rattle.controller.specs.Sent.{sent_message}
 use Rattle.controller.specs.Start.{started}
 use Rattle.controller.specs.Step.{stepped}

@@ -6,8 +6,7 @@ use Rattle.units.specs.declared.settings.Numbers.{Numbers}
 use Rattle.units.specs.Limits.{controllers_top}
 use Rattle.units.specs.Pick.{pick}
 use Rattle.vote.specs.declared.digest.Digest.{Digest}
-use Rattle.vote.specs.Digest.{Poll}
-use Rattle.vote.specs.Digest.{Ballot}
+use Rattle.vote.specs.Digest.{Poll, Ballot}
 use Rattle.vote.specs.declared.votes.Votes.{Votes}
 use Rattle.vote.specs.Decision.{strengths, largest, winning}
 use Rattle.vote.specs.Vote.{count, missing, ballots, nobody}
@@ -19,11 +18,10 @@ use Rattle.message.specs.View.{on_reading, on_update, on_floor, on_issue}
 use Rattle.plan.specs.declared.brief.Phase.{Phase}
 use Rattle.plan.specs.declared.brief.Phase.TheVariants.{Idle, Collecting, Pending, Voting}
 use Rattle.plan.specs.declared.planned.Effect.TheVariants.{Keep}
-use Rattle.plan.specs.Plan.{Sent}
-use Rattle.plan.specs.Plan.{afterwards}
+use Rattle.plan.specs.Plan.{Sent, afterwards}
 use Rattle.plan.specs.Votes.{possessed}
 use Rattle.controller.specs.declared.state.Controller.{Controller}
-use Rattle.controller.specs.declared.step.Answer.{Answer}
+use Rattle.controller.specs.Answers.{Answer}
 use Rattle.controller.specs.State.{brief_of, controller_fits}
 use Rattle.controller.specs.Effects.{in_phase, adopting, issuing}
 use Rattle.controller.specs.Step.{stepped}

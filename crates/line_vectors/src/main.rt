@@ -9,13 +9,13 @@ ghost use Rattle.std.specs.Prelude.{◌≤◌, IfOk, length};
 use floats::bits::bits_of;
 use lines::read::read;
 use lines::setting::write_setting;
-use lines::settle::{Settled, Settling, Standing};
+use lines::settle::{Settled, Settling, Wanted};
 use lines::write::{Written, write, write_plain};
 use message::{Certificate, Head, Message, Settings};
 use std::io;
 use std::io::Read;
 use units::limits::RUNS;
-use units::{Estimate, Group, Numbers, Refusal, verdict_number};
+use units::{Estimate, Group, Numbers, Refusal};
 
 fn tell_refusal(rt: &impl Print, why: Refusal) -> io::Result<()> {
     print!(rt; "refused {}", why.number())?;
@@ -118,7 +118,7 @@ fn tell_plain(rt: &impl Print, head: Head, group: Group) -> io::Result<()> {
     tell_put(rt, |out| write_plain(head, group, out))
 }
 
-// A message X of a number.
+// A message X of a number, which may be none that X can have: the writer is to refuse it.
 fn tell_x(rt: &impl Print, number: u32, m: usize) -> io::Result<()> {
     let head = Head::Refused { number };
     let group = Group { g: 3, m };
@@ -128,15 +128,10 @@ fn tell_x(rt: &impl Print, number: u32, m: usize) -> io::Result<()> {
 
 fn tell_line(rt: &impl Print, line: &[u8], group: Group) -> io::Result<()> {
     let found = read(line, group);
-    let verdict = found.verdict;
     let message = found.message;
-    let head = message.head;
-    let readings = message.readings;
-    let estimates = message.estimates;
-    let targets = message.targets;
-    tell_head(rt, head)?;
-    if verdict_number(verdict) == 0 {
-        tell_runs(rt, readings, estimates, targets)?;
+    tell_head(rt, message.head)?;
+    if found.verdict.is_ok() {
+        tell_runs(rt, message.readings, message.estimates, message.targets)?;
     }
     tell_message(rt, message, group)
 }
@@ -177,16 +172,14 @@ fn tell_lines(rt: &impl Print, settings: Settings) -> io::Result<()> {
 }
 
 fn tell_settled(rt: &impl Print, settled: Settled) -> io::Result<()> {
-    let answer = settled.answer;
-    match answer {
-        Standing::More => println!(rt; "more"),
-        Standing::Whole => {
-            let next = settled.next;
-            let settings = next.settings();
+    match settled.answer {
+        Ok(Wanted::More) => println!(rt; "more"),
+        Ok(Wanted::Whole) => {
+            let settings = settled.next.settings();
             tell_settings(rt, settings)?;
             tell_lines(rt, settings)
         }
-        Standing::Refused(why) => tell_refusal(rt, why),
+        Err(why) => tell_refusal(rt, why),
     }
 }
 
@@ -223,30 +216,23 @@ fn with_number(numbers: Numbers, place: u8, i: usize, n: u32) -> Numbers {
 // A certificate with its length or one of its bytes changed.
 fn with_byte(certificate: Certificate, place: u8, j: usize, n: u32) -> Certificate {
     let mut next = certificate;
-    if place == b'l' {
-        next.len = n as usize;
-        return next;
+    match place {
+        b'l' => next.len = n as usize,
+        _ => next.bytes[j % RUNS] = (n % 256) as u8,
     }
-    next.bytes[j % RUNS] = (n % 256) as u8;
     next
 }
 
 // Settings with one place changed.
 fn changed(settings: Settings, place: u8, i: usize, j: usize, n: u32) -> Settings {
-    let mut certificates = settings.certificates;
-    let numbers = settings.numbers;
-    if (place == b'l') | (place == b'b') {
-        let old = certificates[i % RUNS];
-        certificates[i % RUNS] = with_byte(old, place, j, n);
-        return Settings {
-            numbers,
-            certificates,
-        };
+    let mut next = settings;
+    if place == b'l' || place == b'b' {
+        let run = i % RUNS;
+        next.certificates[run] = with_byte(next.certificates[run], place, j, n);
+    } else {
+        next.numbers = with_number(settings.numbers, place, i, n);
     }
-    Settings {
-        numbers: with_number(numbers, place, i, n),
-        certificates,
-    }
+    next
 }
 
 // A line that names a place by its letter, a run and a byte in two digits each, and the number to stand there.
@@ -259,7 +245,7 @@ fn tell_changed(rt: &impl Print, settings: Settings, line: &[u8]) -> io::Result<
     tell_lines(rt, changed(settings, line[0], i, j, number(&line[5..])))
 }
 
-// What a line of the list is for; the settings after it.
+// What a line of the list is for; the settings after it. `what` is the byte that the list has for it.
 fn take(
     rt: &impl Print,
     what: u8,
@@ -271,9 +257,8 @@ fn take(
         b'Z' => Ok(Settling::start()),
         b'S' => {
             let settled = settling.take(line);
-            let next = settled.next;
             tell_settled(rt, settled)?;
-            Ok(next)
+            Ok(settled.next)
         }
         b'T' => {
             tell_refusal(rt, settling.missing())?;
@@ -296,6 +281,7 @@ fn take(
 }
 
 // Reads until the bytes are full or the input ends, and says how many came.
+// In two programs: they have no library in common that reads.
 fn read_full(input: &mut impl Read, bytes: &mut [u8]) -> io::Result<usize>
     ensures { IfOk result (λ n. n ≤ length bytes.new) }
 {

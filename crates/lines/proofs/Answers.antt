@@ -1,5 +1,5 @@
 -- WHAT THE ANSWERS ARE, by number and values: the writer's, X's numbers both ways, and the settings' 15. Assumes nothing.
-use Rattle.std.specs.Prelude.{Some, None, Err}
+use Rattle.std.specs.Prelude.{Some, None, Err, Ok, Result}
 use Prim.Native.Nat.{ℕ, ◌+◌, ◌≤◌}
 use native.Mathlib.Omega.{arith}
 use mathlib.Core.Path.{◌≡◌, refl, sym, ap, subst, ◌∙◌}
@@ -8,7 +8,6 @@ use mathlib.Core.List.{List, [], ◌∷◌, append-nil}
 use lib.Dec.{eqb, leb}
 use lib.ListN.{length, get_or}
 use borrow.Author.Tests.{eq-eqb, eqb-true, eqb-false, le-leb, lt-ltb, le-ltb, leb-true}
-use Rattle.std.specs.Prelude.{Result, Ok, Err}
 use Rattle.units.specs.declared.refusal.Refusal.{Refusal}
 use Rattle.units.specs.declared.refusal.Refusal.TheVariants.{Long, Unended, Kind as NoKind, Fields, Form as NoForm, Range as NoRange}
 use Rattle.units.specs.declared.settings.Group.{Group}
@@ -35,14 +34,13 @@ use Rattle.fields.specs.Text.{line_feed, until, first_field, later_fields, tabbe
 use Rattle.fields.proofs.Cases.{by_test, by_lt, absurd_by}
 use Rattle.lines.specs.declared.kind.Kind.{Kind}
 use Rattle.lines.specs.declared.kind.Kind.TheVariants.{Refused as OfX, Sizes, Filter, Run}
-use Rattle.lines.specs.declared.settle.Standing.{Standing}
-use Rattle.lines.specs.declared.settle.Standing.TheVariants.{More, Whole, Refused}
+use Rattle.lines.specs.Settling.{Standing, settling_start, stopped, kept, standing_at, kept_values, after_field, turn_of, any_group, settle_plain, settle_weight, settle_factor, settle_certificate, settle_run, expecting, settle_text, settle_line, settle_on, settle_all, missing, run_with, certificate_of}
+use Rattle.lines.specs.declared.settle.Wanted.TheVariants.{More, Whole}
 use Rattle.lines.specs.declared.settle.Settled.{Settled}
 use Rattle.lines.specs.declared.settle.Settling.{Settling}
 use Rattle.lines.specs.Answers.{WriterSays, x_line, Taking, begun, more, runs_read, Waiting, Fifteen, SettlingSays, goes_on, is_whole, refuses, SettingsRefused}
 use Rattle.lines.specs.Lists.{column}
 use Rattle.lines.specs.Reading.{Got, values, stop, refused_line, read_text, read_line, read_values, read_by, ended_once}
-use Rattle.lines.specs.Settling.{settling_start, stopped, kept, standing_at, kept_values, after_field, turn_of, any_group, settle_plain, settle_weight, settle_factor, settle_certificate, settle_run, expecting, settle_text, settle_line, settle_on, settle_all, missing, run_with, certificate_of}
 use Rattle.lines.specs.Table.{kind_of, letter_of, quantity_at, limit_of}
 use Rattle.lines.specs.Values.{kind_is, head_values}
 use Rattle.lines.specs.Writing.{line_of, spell_line, refusal_line, answer_of, buffer_of, write_answer, write_buffer, plain_fits}
@@ -127,7 +125,7 @@ data Led (st : Settling) : Settled → Type 0 where
   took : (s : Settings) → Led st (kept st s)
   left : (why : Refusal) → Early why → Led st (stopped st why)
 
-same_fifteen : (line : ℕ) (a b : Refusal) → Refused a ≡ Refused b → Fifteen line a → Fifteen line b
+same_fifteen : (line : ℕ) (a b : Refusal) → ◌≡◌ {A = Standing} (Err a) (Err b) → Fifteen line a → Fifteen line b
 same_fifteen line a b e f = let z : a ≡ b = cc in subst (Fifteen line) z f
 
 module _ (st : Settling) where
@@ -161,7 +159,7 @@ module _ (st : Settling) where
       (left Unended refl)) (left Long refl)
 
   -- where it is refused, by 15
-  refused_by : {r : Settled} → Led st r → (why : Refusal) → r.answer ≡ Refused why → Fifteen st.line why × (r.next ≡ st)
+  refused_by : {r : Settled} → Led st r → (why : Refusal) → r.answer ≡ Err why → Fifteen st.line why × (r.next ≡ st)
   unfolding pick
   refused_by (took s) why e = by_test (eqb st.line (2 + s.numbers.group.m)) (λ t. absurd_by (let z = rw t at e in cc)) (λ t. absurd_by (let z = rw t at e in cc))
   refused_by (left w h) why e = let n = within_range 1 6 (number_of w) h in (same_fifteen st.line _ why e (record { reason = number_of w; number = refl; values = refl; low = n.0; high = n.1 }), refl)
@@ -204,47 +202,47 @@ waiting (more {st} line k e) =
       sized = λ h. n.some;
     }
   where
-    not_whole_at : (line m : ℕ) → standing_at line m ≡ More → line ≡ 2 + m → ⊥
-    not_whole_at line m e h = let z : Whole ≡ More = rw (eq-eqb line (2 + m) h) at e in absurd_by (cc)
+    not_whole_at : (line m : ℕ) → standing_at line m ≡ Ok More → line ≡ 2 + m → ⊥
+    not_whole_at line m e h = let z : (Ok Whole) ≡ (Ok More) = rw (eq-eqb line (2 + m) h) at e in absurd_by (cc)
 
 -- EVERY ANSWER of a line that is handed to settings that want more, by number and values
 says_taken : (st : Settling) (r : Settled) → Next st r.next r.answer → SettlingSays st r
 unfolding pick
 says_taken st r n =
     by_test (eqb st.line (2 + runs_read r.next))
-    (λ e. let a : r.answer ≡ Whole = n.answer ∙ rw e in is_whole (rw a) (rw a) n.line (eqb-true st.line (2 + runs_read r.next) e))
+    (λ e. let a : r.answer ≡ (Ok Whole) = n.answer ∙ rw e in is_whole (rw a) (rw a) n.line (eqb-true st.line (2 + runs_read r.next) e))
     (λ e.
-    let a : r.answer ≡ More = n.answer ∙ rw e in
+    let a : r.answer ≡ (Ok More) = n.answer ∙ rw e in
     goes_on (rw a) (rw a) n.line (omega (arith, n.turn, eqb-false st.line (2 + runs_read r.next) e)))
 
-says_refused : (st : Settling) (r : Settled) (why : Refusal) → r.answer ≡ Refused why → Fifteen st.line why × (r.next ≡ st) → SettlingSays st r
+says_refused : (st : Settling) (r : Settled) (why : Refusal) → r.answer ≡ Err why → Fifteen st.line why × (r.next ≡ st) → SettlingSays st r
 says_refused st r why e f = let x = f.0 in refuses x.reason (rw e x.number) (rw e x.values) x.low x.high f.1
 
 pub settling_says : {st : Settling} → Taking st → (line : List ℕ) → SettlingSays st (settle_line st line)
 settling_says {st} k line = by_answer (settle_line st line).answer refl
   where
     by_answer : (a : Standing) → (settle_line st line).answer ≡ a → SettlingSays st (settle_line st line)
-    by_answer More e = says_taken st _ (next_is st (waiting k) line (ap takes e))
-    by_answer Whole e = says_taken st _ (next_is st (waiting k) line (ap takes e))
-    by_answer (Refused why) e = says_refused st _ why e (refused_by st (by_line st line) why e)
+    by_answer (Ok More) e = says_taken st _ (next_is st (waiting k) line (ap takes e))
+    by_answer (Ok Whole) e = says_taken st _ (next_is st (waiting k) line (ap takes e))
+    by_answer (Err why) e = says_refused st _ why e (refused_by st (by_line st line) why e)
 
 -- the end of an input within them: its line is missing, 2
 pub missing_says : (st : Settling) → Fifteen st.line (missing st)
 missing_says st = record { reason = 2; number = refl; values = refl; low = omega arith; high = omega arith }
 
 -- SETTINGS REFUSED, whatever the lines: 15, the number of the line refused or missing, 1 to 2 + m, and 1 to 6
-settle_next : (go : Settling → Settled) (st : Settling) (l : List ℕ) → Taking st → ((next : Settling) → Taking next → (why : Refusal) → (go next).answer ≡ Refused why → SettingsRefused (go next).next why)
-    → (a : Standing) → (settle_line st l).answer ≡ a → (why : Refusal) → (settle_on go (settle_line st l).next a).answer ≡ Refused why → SettingsRefused (settle_on go (settle_line st l).next a).next why
-settle_next go st l k rec More e why z = rec (settle_line st l).next (more l k e) why z
-settle_next go st l k rec Whole e why z = absurd_by (cc)
-settle_next go st l k rec (Refused w) e why z =
+settle_next : (go : Settling → Settled) (st : Settling) (l : List ℕ) → Taking st → ((next : Settling) → Taking next → (why : Refusal) → (go next).answer ≡ Err why → SettingsRefused (go next).next why)
+    → (a : Standing) → (settle_line st l).answer ≡ a → (why : Refusal) → (settle_on go (settle_line st l).next a).answer ≡ Err why → SettingsRefused (settle_on go (settle_line st l).next a).next why
+settle_next go st l k rec (Ok More) e why z = rec (settle_line st l).next (more l k e) why z
+settle_next go st l k rec (Ok Whole) e why z = absurd_by (cc)
+settle_next go st l k rec (Err w) e why z =
     let x = refused_by st (by_line st l) w e in
     rw x.1 (record { said = same_fifteen st.line w why z x.0; at = waiting k })
 
-settle_from : (lines : List (List ℕ)) (st : Settling) → Taking st → (why : Refusal) → (settle_all lines st).answer ≡ Refused why → SettingsRefused (settle_all lines st).next why
+settle_from : (lines : List (List ℕ)) (st : Settling) → Taking st → (why : Refusal) → (settle_all lines st).answer ≡ Err why → SettingsRefused (settle_all lines st).next why
 unfolding settle_all
 settle_from [] st k why e = record { said = same_fifteen st.line (missing st) why e (missing_says st); at = waiting k }
 settle_from (l ∷ ls) st k why e = settle_next (settle_all ls) st l k (settle_from ls) (settle_line st l).answer refl why e
 
-pub settle_reasons : (lines : List (List ℕ)) (why : Refusal) → (settle_all lines settling_start).answer ≡ Refused why → SettingsRefused (settle_all lines settling_start).next why
+pub settle_reasons : (lines : List (List ℕ)) (why : Refusal) → (settle_all lines settling_start).answer ≡ Err why → SettingsRefused (settle_all lines settling_start).next why
 settle_reasons lines why e = settle_from lines settling_start begun why e

@@ -1,5 +1,5 @@
 -- WHAT IS REFUSED AHEAD OF A LINE'S FIELDS: over 600 bytes, and without a line feed; and that the reader refuses by 1 to 6 alone. Assumes nothing.
-use Rattle.std.specs.Prelude.{Option, Some, None, Err, Ok}
+use Rattle.std.specs.Prelude.{Option, Some, None, Err, Ok, Result}
 use Prim.Native.Nat.{ℕ, ◌+◌, ◌≤◌, ◌<◌}
 use native.Mathlib.Omega.{arith}
 use mathlib.Core.Path.{◌≡◌, refl, sym, ap, subst, ◌∙◌}
@@ -7,14 +7,12 @@ use mathlib.Core.Bool.{Bool, true, false}
 use mathlib.Core.List.{List, [], ◌∷◌, ◌++◌}
 use lib.Dec.{leb}
 use lib.ListN.{length, take, drop}
-use Rattle.std.specs.Prelude.{Result, Ok, Err}
 use Rattle.units.specs.declared.refusal.Refusal.{Refusal}
 use Rattle.units.specs.declared.refusal.Refusal.TheVariants.{Long, Unended, Range as NoRange}
-use Rattle.units.specs.Refusal.{Verdict}
+use Rattle.units.specs.Refusal.{Verdict, number_of}
 use Rattle.units.specs.declared.settings.Group.{Group}
 use Rattle.units.specs.Limits.{line_top}
 use Rattle.units.specs.Pick.{pick}
-use Rattle.units.specs.Refusal.{number_of}
 use Rattle.units.specs.Settings.{group_fits}
 use Rattle.units.specs.Within.{within}
 use Rattle.fields.specs.declared.field.Fault.{Fault}
@@ -26,7 +24,7 @@ use Rattle.fields.proofs.Texts.{until_all}
 use Rattle.lines.specs.declared.kind.Kind.{Kind}
 use Rattle.lines.specs.declared.read.Line.{Line}
 use Rattle.lines.specs.declared.settle.Settling.{Settling}
-use Rattle.lines.specs.declared.table.Limit.{Limit}
+use Rattle.fields.specs.declared.spelling.Limit.{Limit}
 use Rattle.lines.specs.Reading.{Got, values, stop, limit_after, read_by, onward, read_all, read_rest, read_values, refused_line, line_with, kind_in, read_known, read_text, ended_once, read_line}
 use Rattle.lines.specs.Settling.{stopped, settle_line}
 use Rattle.lines.specs.Table.{count_of}

@@ -12,7 +12,7 @@ use Rattle.fields.proofs.Cases.{by_test, absurd_by}
 use Rattle.lines.specs.declared.kind.Kind.{Kind}
 use Rattle.lines.specs.declared.kind.Kind.TheVariants.{Reading, Query, Reply, Advert, Update, Vote, Setpoints, Due, CollectingEnds, VotingEnds, Floor, Start, Refused, Sizes, Filter, Run}
 use Rattle.lines.specs.declared.table.Quantity.{Quantity}
-use Rattle.lines.specs.declared.table.Limit.{Limit}
+use Rattle.fields.specs.declared.spelling.Limit.{Limit}
 use Rattle.lines.specs.Table.{letter_of, quantity_at, limit_for, limit_of, count_of}
 
 pub limit_at : {q k : Quantity} (s : Group) (given : ℕ) {r : Limit} → q ≡ k → r ≡ limit_for k s given → r ≡ limit_for q s given

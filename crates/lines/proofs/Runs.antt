@@ -8,7 +8,7 @@ use native.Mathlib.Omega.{arith}
 use native.Mathlib.Numerals.{add-one}
 use lib.Dec.{leb}
 use lib.ListN.{length, get_or, set, length-append, length-set}
-use lib.Seq.{sets, sets-eq}
+use lib.Seq.{length-take-le, sets, sets-eq}
 use borrow.Author.Tests.{eq-eqb, ne_eqb, lt-ltb, le-ltb, not-true, not-false}
 use Rattle.units.specs.declared.refusal.Refusal.TheVariants.{Range, Room}
 use Rattle.units.specs.Pick.{pick}
@@ -24,10 +24,9 @@ use Rattle.fields.specs.Text.{tabbed}
 use Rattle.fields.proofs.Puts.{sets_append, put_room, end_room}
 use Rattle.fields.proofs.Texts.{tabbed_append}
 use Rattle.lines.specs.declared.kind.Kind.TheVariants.{Sizes, Filter}
-use Rattle.lines.specs.Writing.{Written}
+use Rattle.lines.specs.Writing.{Written, line_of, answer_of, buffer_of, write_answer, write_buffer}
 use Rattle.lines.specs.Settings.{bytes_of, run_number, who, share, run_line, setting_line, setting_fits}
 use Rattle.lines.specs.Table.{quantity_at}
-use Rattle.lines.specs.Writing.{line_of, answer_of, buffer_of, write_answer, write_buffer}
 use Rattle.lines.proofs.Sending.{write_range, write_put}
 
 -- A FIELD AFTER ITS TAB
@@ -141,8 +140,14 @@ module _ (s : Settings) (k : ℕ) (f : setting_fits s k ≡ true) where
     pub run_few : run < 16
     run_few = let g = settings_few s unpacked.0 in let r = run_below in omega arith
 
-    pub certificate_long : ((get_or s.certificates run no_certificate).len ≤ 16) × (length (get_or s.certificates run no_certificate).bytes ≡ 16)
-    certificate_long = let c = ((settings_exact s).0 unpacked.0).certificate run run_below in (c.size.1, c.sixteen)
+    pub certificate_within : (get_or s.certificates run no_certificate).len ≤ 16
+    certificate_within = (((settings_exact s).0 unpacked.0).certificate run run_below).size.1
+
+    pub certificate_short : length (bytes_of (get_or s.certificates run no_certificate)) ≤ 16
+    certificate_short =
+        let c = ((settings_exact s).0 unpacked.0).certificate run run_below in
+        let n = length-take-le (get_or s.certificates run no_certificate).len (get_or s.certificates run no_certificate).bytes (omega (arith, c.size.1, c.sixteen)) in
+        omega (arith, c.size.1)
 
     pub run_written : (r : Written) (d b : List ℕ)
         → (r ≡ answer_of (run_line run (bytes_of (get_or s.certificates run no_certificate)) (get_or s.numbers.factors run 0) (get_or s.numbers.weights run 0)) b)

@@ -22,10 +22,9 @@ use Rattle.message.specs.Message.{message_fits}
 use Rattle.message.specs.Readings.{readings_fit}
 use Rattle.lines.specs.declared.kind.Kind.{Kind}
 use Rattle.lines.specs.declared.kind.Kind.TheVariants.{Refused as OfRefused}
-use Rattle.lines.specs.Writing.{Written}
+use Rattle.lines.specs.Writing.{Written, line_of, spell_line, refusal_line, answer_of, buffer_of, write_answer, write_buffer}
 use Rattle.lines.specs.Lists.{joined}
 use Rattle.lines.specs.Values.{kind_is, head_values, raw_of, floats_of, target_of, numbers_of}
-use Rattle.lines.specs.Writing.{line_of, spell_line, refusal_line, answer_of, buffer_of, write_answer, write_buffer}
 use Rattle.lines.proofs.Adding.{Roomy, roomy}
 use Rattle.lines.proofs.Arrays.{floats_length}
 

@@ -27,15 +27,14 @@ use Rattle.fields.proofs.Texts.{text_only, fields_back, tabbed_lacks, lacks_appe
 use Rattle.fields.proofs.Scans.{feed_last}
 use Rattle.lines.specs.declared.kind.Kind.{Kind}
 use Rattle.lines.specs.declared.kind.Kind.TheVariants.{Sizes, Filter, Run}
-use Rattle.lines.specs.declared.settle.Standing.{Standing}
-use Rattle.lines.specs.declared.settle.Standing.TheVariants.{More, Whole, Refused}
+use Rattle.lines.specs.Settling.{Standing, kept, stopped, with_sizes, with_filter, run_with, certificate_of, turn_of, any_group, kept_values, settle_plain, after_field, settle_weight, settle_factor, settle_certificate, settle_run, is_kind, expecting, settle_text, settle_line}
+use Rattle.lines.specs.declared.settle.Wanted.TheVariants.{More, Whole}
 use Rattle.lines.specs.declared.settle.Settled.{Settled}
 use Rattle.lines.specs.declared.settle.Settling.{Settling}
-use Rattle.lines.specs.declared.table.Limit.{Limit}
+use Rattle.fields.specs.declared.spelling.Limit.{Limit}
 use Rattle.lines.specs.Lists.{column}
 use Rattle.lines.specs.Reading.{Got, values, stop, read_by, read_values, ended_once}
 use Rattle.lines.specs.Settings.{run_number, run_line}
-use Rattle.lines.specs.Settling.{kept, stopped, with_sizes, with_filter, run_with, certificate_of, turn_of, any_group, kept_values, settle_plain, after_field, settle_weight, settle_factor, settle_certificate, settle_run, is_kind, expecting, settle_text, settle_line}
 use Rattle.lines.specs.Table.{letter_of, quantity_at, spelling_of, limit_for, limit_of, runs_of}
 use Rattle.lines.specs.Writing.{line_of}
 use Rattle.lines.proofs.Columns.{is_column}
@@ -46,9 +45,9 @@ use Rattle.lines.proofs.Wire.{text_of, line_ends, first_is_letter, later_are_tex
 
 -- whether a line was taken
 abbrev pub takes : Standing → Bool
-takes More = true
-takes Whole = true
-takes (Refused why) = false
+takes (Ok More) = true
+takes (Ok Whole) = true
+takes (Err why) = false
 
 -- THE FRAME of every settings line
 framed_back : (st : Settling) (text : List ℕ) → lacks 10 text ≡ true → length text < 600 → settle_line st (text ++ (10 ∷ [])) ≡ settle_text st text

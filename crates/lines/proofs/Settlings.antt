@@ -7,8 +7,10 @@ use native.Mathlib.Omega.{arith}
 use lib.ListN.{length, get_or, take, drop, replicate, length-drop}
 use lib.Seq.{length-take-le}
 use borrow.Author.Tests.{eq-eqb, ne_eqb, eqb-true, le-leb, lt-leb, lt-ltb, le-ltb, not-true, not-false}
-use Rattle.std.specs.Prelude.{Option, Some, None, Result}
-use Rattle.units.specs.declared.refusal.Refusal.TheVariants.{Long, Unended, Kind as NoKind}
+use Rattle.std.specs.Prelude.{Option, Some, None, Result, Ok, Err, ok_or}
+use Rattle.std.specs.Result.{IsErrAnd}
+use Rattle.units.specs.declared.refusal.Refusal.{Refusal}
+use Rattle.units.specs.declared.refusal.Refusal.TheVariants.{Long, Unended, Kind as NoKind, Form as NoForm}
 use Rattle.units.specs.Refusal.{Verdict}
 use Rattle.units.specs.declared.settings.Group.{Group}
 use Rattle.units.specs.Pick.{pick}
@@ -30,9 +32,9 @@ use Rattle.lines.specs.declared.kind.Kind.{Kind}
 use Rattle.lines.specs.declared.kind.Kind.TheVariants.{Sizes, Filter, Run}
 use Rattle.lines.specs.declared.settle.Settled.{Settled}
 use Rattle.lines.specs.declared.settle.Settling.{Settling}
-use Rattle.lines.specs.declared.table.Limit.{Limit}
+use Rattle.fields.specs.declared.spelling.Limit.{Limit}
 use Rattle.lines.specs.Reading.{read_by, read_values, ended_once}
-use Rattle.lines.specs.Settling.{kept, stopped, with_sizes, with_filter, run_with, certificate_of, turn_of, any_group, kept_values, settle_plain, after_field, settle_run, is_kind, expecting, settle_text, settle_line}
+use Rattle.lines.specs.Settling.{kept, stopped, settled, with_sizes, with_filter, run_with, certificate_of, turn_of, any_group, kept_values, settle_plain, after_field, settle_run, is_kind, expecting, settle_text, settle_line}
 use Rattle.lines.specs.Table.{letter_of, limit_of, runs_of}
 use Rattle.lines.specs.Walk.{Here, Rest, got_of, Filled}
 use Rattle.lines.proofs.Openings.{rest_same}
@@ -62,6 +64,20 @@ was_not {b} e t = sym e ∙ not-true b t
 -- it is one letter
 pub kind_start : (kind : Kind) (text : List ℕ) → is_kind kind (first_field text) ≡ true → Here text 2 0
 kind_start kind text e = here_start text (ap length (kind_is_lem kind (first_field text) e))
+
+-- the refusal of `?` stops the settings
+pub settled_err : (st : Settling) (r : Result Settings Refusal) (why : Refusal) → IsErrAnd r (λ x. x ≡ why) → settled st r ≡ stopped st why
+settled_err st (Ok x) why f = absurd f
+settled_err st (Err x) why e = ap (stopped st) e
+
+-- a certificate's end goes on by `ok_or(Refusal::Form)?`, and out as its form where there is none
+pub end_on : {d : Option ℕ} {r : Result ℕ Refusal} {n : ℕ} → r ≡ ok_or d NoForm → r ≡ Ok n → d ≡ Some n
+end_on {d = Some m} p e = cc
+end_on {d = None} p e = absurd_by (cc)
+
+pub end_out : {d : Option ℕ} {r : Result ℕ Refusal} {x : Refusal} → r ≡ ok_or d NoForm → r ≡ Err x → (d ≡ None) × (x ≡ NoForm)
+end_out {d = Some m} p e = absurd_by (cc)
+end_out {d = None} p e = (refl, cc)
 
 -- G AND N
 module _ (st : Settling) (kind : Kind) (text : List ℕ) (is : is_kind kind (first_field text) ≡ true) {s : Group} (se : s ≡ any_group) {w : List ℕ} {a : Verdict}
@@ -112,31 +128,31 @@ pub record Judged (st : Settling) (text : List ℕ) (k i : ℕ) (g : Result Fiel
   pub after : {x : Result Field Fault} (go : ℕ → Settled) {r : Settled} → g ≡ x → r ≡ after_field st x go → r ≡ after_field st (read_by (limit_of Run i any_group (turn_of st)) (get_or (later_fields text) k [])) go
   pub more : {n next : ℕ} → g ≡ value n next → Here text next (k + 1)
 
-pub judged : (st : Settling) (text : List ℕ) (at k i : ℕ) {s : Group} {turn : ℕ} {l : Limit} {g : Result Field Fault} → s ≡ any_group → turn ≡ turn_of st → l ≡ limit_of Run i s turn
+pub judged : (st : Settling) (text : List ℕ) (at k i : ℕ) {turn : ℕ} {l : Limit} {g : Result Field Fault} → turn ≡ turn_of st → l ≡ limit_of Run i any_group turn
     → g ≡ read_at text at l.spelling l.low l.high
     → Here text at k → k < length (later_fields text) → Judged st text k i g
 unfolding read_at read_field
-judged st text at k i {s} {turn} {l} {g} se te le ge h kl = record {
+judged st text at k i {turn} {l} {g} te le ge h kl = record {
   after = λ {x} go {r} e d.
-      rw (← te, ← se, ← le, ← here_field text at k h kl)
+      rw (← te, ← le, ← here_field text at k h kl)
       (d ∙ ap (λ (y : Result Field Fault). after_field st y go) (sym e ∙ ge) ∙ judge_after st l.spelling l.low l.high (next_at text at) 0 (said_by l.spelling (field_at text at)) go);
   more = λ {n} {next} e. here_more text at k next h kl (read_next text at l.spelling l.low l.high n next (sym ge ∙ e));
 }
 
 -- THE CERTIFICATE
+pub record Cut (text : List ℕ) (at end : ℕ) : Type 0 where
+  pub after : at ≤ end
+  pub inside : end ≤ length text
+  pub short : end - at ≤ 16
+  pub bytes : take (end - at) (drop at text) ≡ get_or (later_fields text) 1 []
+  pub next : Here text (end + 1) 2
+  pub shown : is_certificate (get_or (later_fields text) 1 []) ≡ true
+
 module _ (text : List ℕ) (at : ℕ) (c : Option ℕ) (ce : c ≡ certificate_at text at) (four : length (later_fields text) ≡ 4) (h : Here text at 1) where
   field_is : field_at text at ≡ get_or (later_fields text) 1 []
   field_is = here_field text at 1 h (omega arith)
 
-  pub record Cut (end : ℕ) : Type 0 where
-    pub after : at ≤ end
-    pub inside : end ≤ length text
-    pub short : end - at ≤ 16
-    pub bytes : take (end - at) (drop at text) ≡ get_or (later_fields text) 1 []
-    pub next : Here text (end + 1) 2
-    pub shown : is_certificate (get_or (later_fields text) 1 []) ≡ true
-
-  pub cut : (end : ℕ) → c ≡ Some end → Cut end
+  pub cut : (end : ℕ) → c ≡ Some end → Cut text at end
   cut end e =
       let o = certificate_only text at end (sym ce ∙ e) in
       let n = certificate_long (field_at text at) o.0 in
@@ -158,11 +174,10 @@ module _ (text : List ℕ) (at : ℕ) (c : Option ℕ) (ce : c ≡ certificate_a
   not_cut e = rw (← field_is) (by_test (is_certificate (field_at text at)) (λ t. absurd_by (let z : None ≡ certificate_at text at = sym e ∙ ce in let y = rw t at z in cc)) (λ t. t))
 
 -- THE WEIGHT
-pub weight_kept : (st : Settling) (text : List ℕ) (turn : ℕ) (c : Certificate) (factor n : ℕ) (x : Settings) (r : Settled) → turn ≡ turn_of st → c ≡ certificate_of (get_or (later_fields text) 1 [])
-    → x ≡ run_with st.settings turn c factor n → r ≡ kept st x
-    → r ≡ kept st (run_with st.settings (turn_of st) (certificate_of (get_or (later_fields text) 1 [])) factor n)
-weight_kept st text turn c factor n x r te ce xe h =
-    h ∙ ap (kept st) (xe ∙ ap (λ (t : ℕ). run_with st.settings t c factor n) te ∙ ap (λ (d : Certificate). run_with st.settings (turn_of st) d factor n) ce)
+pub weight_kept : (st : Settling) (text : List ℕ) (turn : ℕ) (c : Certificate) (factor n : ℕ) (x : Settings) → turn ≡ turn_of st → c ≡ certificate_of (get_or (later_fields text) 1 [])
+    → x ≡ run_with st.settings turn c factor n → kept st x ≡ kept st (run_with st.settings (turn_of st) (certificate_of (get_or (later_fields text) 1 [])) factor n)
+weight_kept st text turn c factor n x te ce xe =
+    ap (kept st) (xe ∙ ap (λ (t : ℕ). run_with st.settings t c factor n) te ∙ ap (λ (d : Certificate). run_with st.settings (turn_of st) d factor n) ce)
 
 -- A LINE'S TEXT, by the line that it is
 module _ (st : Settling) (text : List ℕ) where

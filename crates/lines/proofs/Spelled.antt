@@ -19,7 +19,7 @@ use Rattle.fields.proofs.Cases.{by_test, by_lt, absurd_by}
 use Rattle.fields.proofs.Puts.{written_is}
 use Rattle.fields.proofs.Spellings.{field_only, field_read, fits_range}
 use Rattle.lines.specs.declared.kind.Kind.{Kind}
-use Rattle.lines.specs.declared.table.Limit.{Limit}
+use Rattle.fields.specs.declared.spelling.Limit.{Limit}
 use Rattle.lines.specs.declared.table.Quantity.{Quantity}
 use Rattle.lines.specs.declared.table.Quantity.TheVariants.{Sender, RunNumber, Round, State, Base, Mask, Raw, X, Variance, Target, Number, Controllers, Runs, Noise, First, Turn, Factor, Weight}
 use Rattle.lines.specs.Reading.{Got, values, stop, limit_after, read_by, onward, read_all, enough, read_rest, read_values}

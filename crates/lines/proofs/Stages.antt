@@ -1,5 +1,5 @@
 -- The reader's two stages: the head of a line, then what R's mask says that there is. Assumes nothing.
-use Rattle.std.specs.Prelude.{Result, Ok, Err}
+use Rattle.std.specs.Prelude.{Result, Ok, Err, IsErrAnd}
 use Prim.Native.Nat.{ℕ, ◌+◌, ◌-◌, ◌≤◌, ◌<◌}
 use mathlib.Core.Path.{◌≡◌, refl, sym, ◌∙◌}
 use mathlib.Core.List.{List, []}
@@ -53,8 +53,9 @@ module _ {k : Kind} {s : Group} {text v : List ℕ} {fields heads total : ℕ} (
     pub rest_walked : {at : ℕ} → r ≡ Ok at → Filled k s text w (read_rest k s (later_fields text) (values (take heads v))) (Ok tt)
     rest_walked {at} e = record { got = rw e at rest_got; rest = λ z. rw counted (d.rest at e); long = d.long }
 
-    pub rest_stop : {why : Refusal} → r ≡ Err why → Filled k s text w (read_rest k s (later_fields text) (values (take heads v))) (Err why)
-    rest_stop e = filled_stop d.long (rw e at rest_got)
+    pub rest_stop : {why : Refusal} {g : Verdict} → r ≡ Err why → IsErrAnd g (λ y. y ≡ why) → Filled k s text w (read_rest k s (later_fields text) (values (take heads v))) g
+    rest_stop {g = Ok y} e f = absurd f
+    rest_stop {g = Err y} e f = rw f (filled_stop d.long (rw e at rest_got))
 
 -- `read_values`
 module _ {k : Kind} {s : Group} {text : List ℕ} {fields : ℕ} {b : Bool} (fe : fields ≡ length (later_fields text)) (be : b ≡ enough k s fields) where
@@ -73,8 +74,9 @@ module _ {k : Kind} {s : Group} {text : List ℕ} {fields : ℕ} {b : Bool} (fe 
     pub values_rest : {x : List ℕ} {a : Verdict} {at : ℕ} → r ≡ Ok at → Filled k s text x (read_rest k s (later_fields text) (values (take heads w))) a → Filled k s text x (read_values k s (later_fields text)) a
     values_rest e f = record { got = f.got ∙ after_got (values (take heads w)) (rw e); rest = f.rest; long = f.long }
 
-    pub values_stop : {why : Refusal} → r ≡ Err why → Filled k s text w (read_values k s (later_fields text)) (Err why)
-    values_stop {why} e = filled_stop d.long (after_got (stop why) (rw e))
+    pub values_stop : {why : Refusal} {g : Verdict} → r ≡ Err why → IsErrAnd g (λ y. y ≡ why) → Filled k s text w (read_values k s (later_fields text)) g
+    values_stop {g = Ok y} e f = absurd f
+    values_stop {why} {g = Err y} e f = rw f (filled_stop d.long (after_got (stop why) (rw e)))
 
 -- THE FIRST FIELD of one byte: the next starts at place 2
 pub here_start : (text : List ℕ) → length (first_field text) ≡ 1 → Here text 2 0

@@ -1,5 +1,6 @@
 -- What the functions need that read a line straight on: one number more, and the whole line. Assumes nothing.
-use Rattle.std.specs.Prelude.{Some, Result, Ok, Err}
+use Rattle.std.specs.Prelude.{Option, Some, Result, Ok, Err}
+use Rattle.std.specs.Result.{result_ok}
 use Prim.Native.Nat.{ℕ, suc, ◌+◌, ◌≤◌, ◌<◌}
 use mathlib.Core.Path.{◌≡◌, refl, sym, ap, ◌∙◌}
 use mathlib.Core.List.{List, [], ◌∷◌, ◌++◌, append-nil}
@@ -26,7 +27,7 @@ use Rattle.fields.proofs.Texts.{until_append, tabbed_append}
 use Rattle.lines.specs.declared.kind.Kind.{Kind}
 use Rattle.lines.specs.declared.kind.Kind.TheVariants.{Reading}
 use Rattle.lines.specs.declared.read.First.{First}
-use Rattle.lines.specs.declared.table.Limit.{Limit}
+use Rattle.fields.specs.declared.spelling.Limit.{Limit}
 use Rattle.lines.specs.Reading.{values, limit_after, read_all, first_of, first_line, read_line}
 use Rattle.lines.specs.Straight.{Trod, AfterTab}
 use Rattle.lines.specs.Table.{letter_of, kind_of, limit_of, limit_for, quantity_at, count_of}
@@ -129,6 +130,11 @@ module _ {kind : Kind} {s : Group} {input v : List ℕ} {k at : ℕ} (w : Trod k
       let r : read_line s (first_of input) ≡ taken (message_of s kind (take k v)) = ap (read_line s) line_is ∙ line_back kind s (take k v) gr (rw letter at known) fit in
       let z : m ≡ message_of s kind (take k v) = me ∙ message_same s kind v (take k v) same in
       rw (r, z, ← feed_is)
+
+-- a field goes on by `ok()?`
+pub field_on : {r : Result Field Fault} {o : Option Field} {f : Field} → o ≡ result_ok r → o ≡ Some f → r ≡ Ok f
+field_on {r = Ok g} p e = cc
+field_on {r = Err why} p e = absurd_by (cc)
 
 -- `go_on`
 abbrev pub Treading : Kind → Group → List ℕ → List ℕ → ℕ → List ℕ → ℕ → ℕ → Type 0

@@ -19,7 +19,7 @@ use Rattle.fields.proofs.Cases.{by_test, absurd_by}
 use Rattle.fields.proofs.Spellings.{read_only}
 use Rattle.fields.proofs.Texts.{cursor_field, cursor_more}
 use Rattle.lines.specs.declared.kind.Kind.{Kind}
-use Rattle.lines.specs.declared.table.Limit.{Limit}
+use Rattle.fields.specs.declared.spelling.Limit.{Limit}
 use Rattle.lines.specs.Table.{limit_of}
 use Rattle.lines.specs.Reading.{Got, limit_after, onward, read_all}
 use Rattle.lines.specs.Walk.{Here, Rest, Walked}

@@ -1,4 +1,5 @@
 -- THE ROUND TRIP OF THE SETTINGS AS A WHOLE: settings in range, written and read again, are the same; what is accepted is in range and spelled as the writer spells it. Assumes nothing.
+use Rattle.std.specs.Prelude.{Err, Ok}
 use Prim.Native.Nat.{ℕ, zero, suc, ◌+◌, ◌-◌, ◌≤◌, ◌<◌}
 use mathlib.Core.Path.{◌≡◌, refl, sym, ap, subst, ◌∙◌}
 use mathlib.Core.List.{List, [], ◌∷◌}
@@ -28,13 +29,12 @@ use Rattle.fields.proofs.Cases.{by_lt, absurd_by}
 use Rattle.fields.proofs.Certificates.{certificate_long}
 use Rattle.fields.proofs.Spellings.{fits_range, range_fits}
 use Rattle.lines.specs.declared.kind.Kind.TheVariants.{Sizes, Filter}
-use Rattle.lines.specs.declared.settle.Standing.{Standing}
-use Rattle.lines.specs.declared.settle.Standing.TheVariants.{More, Whole, Refused}
+use Rattle.lines.specs.Settling.{Standing, no_one, settling_start, kept, with_sizes, with_filter, certificate_of, turn_of, any_group, settle_line, settle_on, settle_all}
+use Rattle.lines.specs.declared.settle.Wanted.TheVariants.{More, Whole}
 use Rattle.lines.specs.declared.settle.Settled.{Settled}
 use Rattle.lines.specs.declared.settle.Settling.{Settling}
 use Rattle.lines.specs.Lists.{column}
 use Rattle.lines.specs.Settings.{bytes_of, run_line, setting_line, setting_lines}
-use Rattle.lines.specs.Settling.{no_one, settling_start, kept, with_sizes, with_filter, certificate_of, turn_of, any_group, settle_line, settle_on, settle_all}
 use Rattle.lines.specs.Table.{quantity_at, limit_for, limit_of, runs_of, count_of}
 use Rattle.lines.specs.Values.{word}
 use Rattle.lines.specs.Writing.{line_of}
@@ -205,7 +205,7 @@ pub record Spelt (lines : List (List ℕ)) (s : Settings) : Type 0 where
   pub only : take (2 + s.numbers.group.m) lines ≡ setting_lines s
 
 abbrev pub whole : Settling → Settled
-whole st = record { next = st; answer = Whole }
+whole st = record { next = st; answer = Ok Whole }
 
 not_whole : {A : Type 0} (st end : Settling) → settle_all [] st ≡ whole end → A
 unfolding settle_all
@@ -217,9 +217,9 @@ unfolding settle_all
 was_taken st end l ls e = go (settle_line st l).answer e
   where
     go : (a : Standing) → settle_on (settle_all ls) (settle_line st l).next a ≡ whole end → takes a ≡ true
-    go More z = refl
-    go Whole z = refl
-    go (Refused why) z = let y = ap (λ (x : Settled). x.answer) z in absurd_by (cc)
+    go (Ok More) z = refl
+    go (Ok Whole) z = refl
+    go (Err why) z = let y = ap (λ (x : Settled). x.answer) z in absurd_by (cc)
 
 -- what a taken line leads to
 module _ (st : Settling) (l : List ℕ) (ls : List (List ℕ)) (n : ℕ) (s : Settings) (e : settle_line st l ≡ kept st s) (ne : st.line + 1 ≡ n) where

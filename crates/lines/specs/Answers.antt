@@ -1,16 +1,15 @@
 -- WHAT THE ANSWERS ARE, by document 01's numbers and their values: of the writer, and of the settings line by line. Laws in proofs/Answers.
-use Rattle.std.specs.Prelude.{ℕ, ◌+◌, ◌≤◌, ◌<◌, ◌≡◌, Bool, true, false, List, [], ◌∷◌, ◌++◌, length}
+use Rattle.std.specs.Prelude.{ℕ, ◌+◌, ◌≤◌, ◌<◌, ◌≡◌, Bool, true, false, List, [], ◌∷◌, ◌++◌, length, Ok}
 use Rattle.units.specs.declared.refusal.Refusal.{Refusal}
 use Rattle.units.specs.Refusal.{number_of, values_of}
 use Rattle.fields.specs.declared.spelling.Spelling.TheVariants.{Decimal}
 use Rattle.fields.specs.Put.{written}
 use Rattle.fields.specs.Text.{tab, line_feed}
-use Rattle.lines.specs.declared.settle.Standing.TheVariants.{More}
+use Rattle.lines.specs.declared.settle.Wanted.TheVariants.{More}
 use Rattle.lines.specs.declared.settle.Settled.{Settled}
 use Rattle.lines.specs.declared.settle.Settling.{Settling}
-use Rattle.lines.specs.Writing.{Written}
+use Rattle.lines.specs.Writing.{Written, written_number, written_values}
 use Rattle.lines.specs.Settling.{settling_start, settle_line, standing_number, standing_values}
-use Rattle.lines.specs.Writing.{written_number, written_values}
 
 -- THE WRITER: 6 where the value is out of range; 16 where it is in range and the buffer is shorter than its line; else 0 and the line's length
 pub record WriterSays (fit : Bool) (line buf : List ℕ) (r : Written) : Type 0 where
@@ -25,7 +24,7 @@ x_line n = 88 ∷ tab ∷ written Decimal n ++ (line_feed ∷ [])
 -- SETTINGS THAT WANT MORE: from the start, whatever lines, each taken and none of them the last
 pub data Taking : Settling → Type 0 where
   begun : Taking settling_start
-  more : {st : Settling} (line : List ℕ) → Taking st → (settle_line st line).answer ≡ More → Taking (settle_line st line).next
+  more : {st : Settling} (line : List ℕ) → Taking st → (settle_line st line).answer ≡ Ok More → Taking (settle_line st line).next
 
 -- the line that they wait for: 1 to 2 + m, where m is 0 until G is read
 abbrev pub runs_read : Settling → ℕ

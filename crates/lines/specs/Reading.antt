@@ -16,7 +16,7 @@ use Rattle.fields.specs.Text.{line_feed, until, first_field, later_fields}
 use Rattle.lines.specs.declared.kind.Kind.{Kind}
 use Rattle.lines.specs.declared.read.Line.{Line}
 use Rattle.lines.specs.declared.read.First.{First}
-use Rattle.lines.specs.declared.table.Limit.{Limit}
+use Rattle.fields.specs.declared.spelling.Limit.{Limit}
 use Rattle.lines.specs.Table.{letter_of, kind_of, limit_of, count_of}
 use Rattle.lines.specs.Values.{message_of}
 

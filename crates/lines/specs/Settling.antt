@@ -6,7 +6,7 @@ use Rattle.units.specs.declared.settings.Group.{Group}
 use Rattle.units.specs.declared.settings.Numbers.{Numbers}
 use Rattle.units.specs.Limits.{line_top, runs_top}
 use Rattle.units.specs.Pick.{pick}
-use Rattle.units.specs.Refusal.{number_of, values_of}
+use Rattle.units.specs.Refusal.{answer_number, number_of, values_of}
 use Rattle.message.specs.declared.certificate.Certificate.{Certificate}
 use Rattle.message.specs.declared.settings.Settings.{Settings}
 use Rattle.fields.specs.declared.field.Fault.{Fault}
@@ -16,8 +16,8 @@ use Rattle.fields.specs.Certificate.{is_certificate}
 use Rattle.fields.specs.Text.{line_feed, until, first_field, later_fields}
 use Rattle.lines.specs.declared.kind.Kind.{Kind}
 use Rattle.lines.specs.declared.kind.Kind.TheVariants.{Sizes, Filter, Run}
-use Rattle.lines.specs.declared.settle.Standing.{Standing}
-use Rattle.lines.specs.declared.settle.Standing.TheVariants.{More, Whole, Refused}
+use Rattle.lines.specs.declared.settle.Wanted.{Wanted}
+use Rattle.lines.specs.declared.settle.Wanted.TheVariants.{More, Whole}
 use Rattle.lines.specs.declared.settle.Settled.{Settled}
 use Rattle.lines.specs.declared.settle.Settling.{Settling}
 use Rattle.lines.specs.Lists.{column}
@@ -35,16 +35,25 @@ no_numbers = record { group = record { g = 0; m = 0 }; q = 0; r = 0; p = 0; fact
 unfoldable pub settling_start : Settling
 settling_start = record { line = 1; settings = record { numbers = no_numbers; certificates = replicate runs_top no_one } }
 
+-- how the settings stand after a line: more lines wanted, or whole, or why the line was refused
+abbrev pub Standing : Type 0
+Standing = Result Wanted Refusal
+
 -- A LINE REFUSED: "line number from 1, and 1..6 as reason"; nothing is taken in
 abbrev pub stopped : Settling → Refusal → Settled
-stopped st why = record { next = st; answer = Refused (NoSettings st.line (number_of why)) }
+stopped st why = record { next = st; answer = Err (NoSettings st.line (number_of why)) }
 
 -- A LINE TAKEN: the settings are whole after line 2 + m
 abbrev pub standing_at : ℕ → ℕ → Standing
-standing_at line m = pick (eqb line (2 + m)) Whole More
+standing_at line m = pick (eqb line (2 + m)) (Ok Whole) (Ok More)
 
 abbrev pub kept : Settling → Settings → Settled
 kept st settings = record { next = record { line = st.line + 1; settings = settings }; answer = standing_at st.line settings.numbers.group.m }
+
+-- what a line led to that gave settings, or a refusal
+abbrev pub settled : Settling → Result Settings Refusal → Settled
+settled st (Ok settings) = kept st settings
+settled st (Err why) = stopped st why
 
 -- G: g, m
 abbrev pub with_sizes : Settings → List ℕ → Settings
@@ -136,9 +145,9 @@ missing st = NoSettings st.line (number_of Unended)
 
 -- THE SETTINGS AS A WHOLE: the lines of an input, one after the other
 abbrev pub settle_on : (Settling → Settled) → Settling → Standing → Settled
-settle_on go st More = go st
-settle_on go st Whole = record { next = st; answer = Whole }
-settle_on go st (Refused why) = record { next = st; answer = Refused why }
+settle_on go st (Ok More) = go st
+settle_on go st (Ok Whole) = record { next = st; answer = Ok Whole }
+settle_on go st (Err why) = record { next = st; answer = Err why }
 
 unfoldable pub settle_all : List (List ℕ) → Settling → Settled
 settle_all [] st = stopped st Unended
@@ -146,11 +155,9 @@ settle_all (l ∷ ls) st = settle_on (settle_all ls) (settle_line st l).next (se
 
 -- the number of what a line of the settings led to, 0 where it was taken, and the values that go with it
 abbrev pub standing_number : Standing → ℕ
-standing_number More = 0
-standing_number Whole = 0
-standing_number (Refused why) = number_of why
+standing_number a = answer_number a
 
 abbrev pub standing_values : Standing → List ℕ
-standing_values More = 0 ∷ []
-standing_values Whole = 1 ∷ []
-standing_values (Refused why) = values_of why
+standing_values (Ok More) = 0 ∷ []
+standing_values (Ok Whole) = 1 ∷ []
+standing_values (Err why) = values_of why

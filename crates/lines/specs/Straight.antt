@@ -6,7 +6,7 @@ use Rattle.fields.specs.declared.field.Field.{Field}
 use Rattle.fields.specs.Field.{value, read_here}
 use Rattle.fields.specs.Text.{tab, tabbed}
 use Rattle.lines.specs.declared.kind.Kind.{Kind}
-use Rattle.lines.specs.declared.table.Limit.{Limit}
+use Rattle.fields.specs.declared.spelling.Limit.{Limit}
 use Rattle.lines.specs.Reading.{values, limit_after, read_all}
 use Rattle.lines.specs.Walk.{Rest}
 

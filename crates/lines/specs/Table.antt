@@ -12,7 +12,7 @@ use Rattle.lines.specs.declared.kind.Kind.{Kind}
 use Rattle.lines.specs.declared.kind.Kind.TheVariants.{Reading, Query, Reply, Advert, Update, Vote, Setpoints, Due, CollectingEnds, VotingEnds, Floor, Start, Refused, Sizes, Filter, Run}
 use Rattle.lines.specs.declared.table.Quantity.{Quantity}
 use Rattle.lines.specs.declared.table.Quantity.TheVariants.{Sender, RunNumber, Round, State, Base, Mask, Raw, X, Variance, Target, Number, Controllers, Runs, Noise, First, Turn, Factor, Weight}
-use Rattle.lines.specs.declared.table.Limit.{Limit}
+use Rattle.fields.specs.declared.spelling.Limit.{Limit}
 
 -- M Q R A U D S C E V F B X G N K
 abbrev pub letter_of : Kind → ℕ

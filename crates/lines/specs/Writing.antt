@@ -4,7 +4,7 @@ use Rattle.units.specs.declared.refusal.Refusal.{Refusal}
 use Rattle.units.specs.declared.refusal.Refusal.TheVariants.{Range, Room}
 use Rattle.units.specs.declared.settings.Group.{Group}
 use Rattle.units.specs.Pick.{pick}
-use Rattle.units.specs.Refusal.{number_of, values_of}
+use Rattle.units.specs.Refusal.{answer_number, number_of, values_of}
 use Rattle.message.specs.declared.head.Head.{Head}
 use Rattle.message.specs.declared.value.Message.{Message}
 use Rattle.message.specs.Head.{is_plain}
@@ -60,8 +60,7 @@ plain_fits s head = is_plain head && message_fits s (plain head)
 
 -- the number of what the writer answers, 0 where it is done, and the values that go with it
 abbrev pub written_number : Written → ℕ
-written_number (Ok len) = 0
-written_number (Err why) = number_of why
+written_number w = answer_number w
 
 abbrev pub written_values : Written → List ℕ
 written_values (Ok len) = len ∷ []

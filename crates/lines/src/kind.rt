@@ -24,6 +24,7 @@ pub enum Kind {
 }
 
 impl Kind {
+    // No From and TryFrom: `letter_of` and `kind_of` are two tables, since X, G, N and K are no kinds of message that is read.
     pub(crate) fn letter(self) -> u8
         ensures { result ≡ letter_of self }
     {

@@ -1,6 +1,7 @@
 // Lines: every kind of line read and written in its one spelling, and the settings lines.
 #![tactic(auto)]
 
+mod counted;
 pub mod kind;
 pub mod numbers;
 pub mod read;

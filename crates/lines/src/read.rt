@@ -1,11 +1,12 @@
 // THE READER: what a line says, or why it is refused.
 ghost use Rattle.std.specs.Prelude.{◌≡◌, true, ℕ, ◌<◌, length, get_or};
 ghost use Rattle.units.specs.Settings.{group_fits};
-ghost use Rattle.fields.specs.Text.{first_field, later_fields, scanned, tabs_in};
+ghost use Rattle.fields.specs.Text.{first_field, later_fields, scanned};
 ghost use Rattle.lines.specs.Straight.{Trod};
 ghost use Rattle.lines.specs.Table.{count_of, kind_of};
 ghost use Rattle.lines.specs.Reading.{first_line, first_of, kind_in, line_with, read_line, read_text, read_values, refused_line};
 
+use crate::counted::Counted;
 use crate::kind::{Kind, kind_of};
 use crate::straight::{numbers_in, reading_in};
 use crate::typed::message_of;
@@ -17,6 +18,7 @@ use units::limits::LINE;
 use units::{Group, Refusal, Verdict};
 
 // A line's verdict, and its message; of a refused line X with its number.
+// The message stands beside the verdict: `read_line` promises X with its number for a refused line, and the laws of the wire name both.
 #[derive(Clone, Copy)]
 pub struct Line {
     pub verdict: Verdict,
@@ -35,6 +37,7 @@ fn refused(why: Refusal) -> Line
 }
 
 // The kind that a text's first field names.
+#[tactic(auto, using(crate::proofs::Openings::kind_none, crate::proofs::Openings::kind_one, crate::proofs::Openings::kind_more, crate::proofs::Openings::open_within))]
 fn kind_in(text: &[u8]) -> Option<Kind>
     ensures { result ≡ kind_in (first_field text.now) }
 {
@@ -47,13 +50,13 @@ fn kind_in(text: &[u8]) -> Option<Kind>
     None
 }
 
-// The line of a known kind, with its fields counted.
-fn read_known(text: &[u8], kind: Kind, group: Group, fields: usize) -> Line
-    requires { (fields ≡ tabs_in text.now) × (length (first_field text.now) ≡ 1) }
-    ensures { result ≡ line_with group kind (read_values kind group (later_fields text.now)) }
+// The line of a known kind.
+fn read_known(line: Counted<'_>, kind: Kind, group: Group) -> Line
+    requires { length (first_field line.text.now) ≡ 1 }
+    ensures { result ≡ line_with group kind (read_values kind group (later_fields line.entry.text.now)) }
 {
     let mut v = [0u64; 34];
-    match read_values(text, kind, group, &mut v, fields) {
+    match read_values(line, kind, group, &mut v) {
         Ok(()) => Line {
             verdict: Ok(()),
             message: message_of(kind, group, &v),
@@ -62,12 +65,12 @@ fn read_known(text: &[u8], kind: Kind, group: Group, fields: usize) -> Line
     }
 }
 
-fn read_text(text: &[u8], group: Group, fields: usize) -> Line
-    requires { fields ≡ tabs_in text.now }
-    ensures { result ≡ read_text group text.now }
+#[tactic(auto, using(crate::proofs::Openings::text_found))]
+fn read_text(line: Counted<'_>, group: Group) -> Line
+    ensures { result ≡ read_text group line.entry.text.now }
 {
-    match kind_in(text) {
-        Some(kind) => read_known(text, kind, group, fields),
+    match kind_in(line.text) {
+        Some(kind) => read_known(line, kind, group),
         None => refused(Refusal::Kind),
     }
 }
@@ -83,15 +86,14 @@ pub fn read(line: &[u8], group: Group) -> Line
         return refused(Refusal::Long);
     }
     let seen = scan(line);
-    let feed = seen.feed;
-    let tabs = seen.tabs;
-    if feed + 1 != line.len() {
+    if seen.feed + 1 != line.len() {
         return refused(Refusal::Unended);
     }
-    read_text(&line[..feed], group, tabs)
+    read_text(Counted::of(line, seen), group)
 }
 
 // What the reader says of an input's first line, and the place of its line feed; the input's length where there is none.
+// No Option of a feed: `first_line` gives the length where there is none.
 #[derive(Clone, Copy)]
 pub struct First {
     pub line: Line,
@@ -104,7 +106,6 @@ fn read_seen(input: &[u8], group: Group, seen: Scan) -> Line
     ensures { result ≡ read_line group (first_of input.now) }
 {
     let feed = seen.feed;
-    let tabs = seen.tabs;
     if !group.in_range() {
         return refused(Refusal::Range);
     }
@@ -117,10 +118,11 @@ fn read_seen(input: &[u8], group: Group, seen: Scan) -> Line
     if feed == LINE {
         return refused(Refusal::Long);
     }
-    read_text(&input[..feed], group, tabs)
+    read_text(Counted::of(input, seen), group)
 }
 
 // What the first line of an input says: its fields are counted, then each is judged.
+#[tactic(auto, using(crate::proofs::Firsts::first_whole_line))]
 fn read_with_care(input: &[u8], group: Group) -> First
     ensures { result ≡ first_line group input.now }
 {
@@ -133,6 +135,7 @@ fn read_with_care(input: &[u8], group: Group) -> First
 }
 
 // The same, of a line whose numbers were read straight on to a place, where it has to end; it is read again with care where they were not, or where it goes on.
+#[inline(always)]
 fn read_to(input: &[u8], kind: Kind, group: Group, v: &[u64; 34], trail: Option<usize>) -> First
     requires { (group_fits group ≡ true) × (0 < length input.now) × (kind_of (get_or input.now 0 0) ≡ Some kind) × ((at : ℕ) → trail ≡ Some at → Trod kind group input.now v.now (count_of kind group (get_or v.now 2 0)) at) }
     ensures { result ≡ first_line group input.now }
@@ -156,13 +159,14 @@ pub fn read_first(input: &[u8], group: Group) -> First
     if !group.in_range() || input.is_empty() {
         return read_with_care(input, group);
     }
-    let mut v = [0u64; 34];
     match kind_of(input[0]) {
         Some(Kind::Reading) => {
+            let mut v = [0u64; 34];
             let trail = reading_in(input, group, &mut v);
             read_to(input, Kind::Reading, group, &v, trail)
         }
         Some(kind) => {
+            let mut v = [0u64; 34];
             let trail = numbers_in(input, kind, group, &mut v);
             read_to(input, kind, group, &v, trail)
         }

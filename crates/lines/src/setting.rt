@@ -3,26 +3,27 @@ ghost use Rattle.std.specs.Prelude.{◌≡◌, true, ◌∷◌, ◌+◌, ◌≤�
 ghost use Rattle.std.proofs.lemmas.List.Edits.{sets};
 ghost use Rattle.fields.specs.declared.spelling.Spelling.{Spelling};
 ghost use Rattle.fields.specs.Put.{written};
-ghost use Rattle.lines.specs.Settings.{bytes_of, run_line, setting_fits, setting_line, share, who};
+ghost use Rattle.lines.specs.Settings.{run_line, setting_fits, setting_line, share, who};
 ghost use Rattle.lines.specs.Writing.{answer_of, buffer_of, write_answer, write_buffer};
 
 use crate::kind::Kind;
+use crate::numbers::LineNumbers;
 use crate::settle::turn_of;
 use crate::write::{Written, put_line};
 use fields::text::{LINE_FEED, TAB};
 use fields::{Spelling, put_at, put_part, width};
-use message::{Certificate, Settings};
+use message::Settings;
 use units::Refusal;
 
 // Whether there is a line k of these settings, which are in range.
+#[tactic(auto, using(crate::proofs::Runs::setting_none, crate::proofs::Runs::setting_runs, crate::proofs::Runs::setting_some))]
 fn is_setting(settings: Settings, k: u32) -> bool
     ensures { result ≡ setting_fits settings k }
 {
     if !settings.in_range() {
         return false;
     }
-    let m = settings.numbers.group.m;
-    (1 <= k) & (k as usize <= 2 + m)
+    (1 <= k) & (k as usize <= 2 + settings.numbers.group.m)
 }
 
 // Puts a number after its tab.
@@ -34,15 +35,13 @@ fn put_field(buf: &mut [u8], at: usize, spelling: Spelling, n: u64) -> usize
     put_at(buf, at + 1, spelling, n)
 }
 
-// Puts a certificate after its tab.
-fn put_certificate(buf: &mut [u8], at: usize, certificate: Certificate) -> usize
-    requires { (certificate.len ≤ 16) × (length certificate.bytes ≡ 16) × (at + (1 + certificate.len) ≤ length buf.old) }
-    ensures { (result ≡ at + (1 + length (bytes_of certificate))) × (buf.new ≡ sets buf.old at (9 ∷ bytes_of certificate)) }
+// Puts a certificate's bytes after their tab.
+fn put_certificate(buf: &mut [u8], at: usize, certificate: &[u8]) -> usize
+    requires { at + (1 + length certificate.now) ≤ length buf.old }
+    ensures { (result ≡ at + (1 + length certificate.now)) × (buf.new ≡ sets buf.old at (9 ∷ certificate.now)) }
 {
-    let len = certificate.len;
-    let bytes = certificate.bytes;
     buf[at] = TAB;
-    put_part(buf, at + 1, &bytes[..len])
+    put_part(buf, at + 1, certificate)
 }
 
 // The bytes of the fields of a line K, each with its tab.
@@ -57,9 +56,9 @@ fn run_width(run: usize, len: usize, factor: u32, weight: u32) -> usize
 }
 
 // Puts the run and its certificate.
-fn put_who(buf: &mut [u8], run: usize, certificate: Certificate) -> usize
-    requires { (certificate.len ≤ 16) × (length certificate.bytes ≡ 16) × (1 + ((1 + length (written Spelling.Decimal run)) + (1 + certificate.len)) ≤ length buf.old) }
-    ensures { (result ≡ 1 + length (who run (bytes_of certificate))) × (buf.new ≡ sets buf.old 1 (who run (bytes_of certificate))) }
+fn put_who(buf: &mut [u8], run: usize, certificate: &[u8]) -> usize
+    requires { 1 + ((1 + length (written Spelling.Decimal run)) + (1 + length certificate.now)) ≤ length buf.old }
+    ensures { (result ≡ 1 + length (who run certificate.now)) × (buf.new ≡ sets buf.old 1 (who run certificate.now)) }
 {
     let at = put_field(buf, 1, Spelling::Decimal, run as u64);
     put_certificate(buf, at, certificate)
@@ -75,17 +74,11 @@ fn put_share(buf: &mut [u8], at: usize, factor: u32, weight: u32) -> usize
 }
 
 // Puts the line K of a run.
-fn put_run(
-    buf: &mut [u8],
-    run: usize,
-    certificate: Certificate,
-    factor: u32,
-    weight: u32,
-) -> Written
-    requires { (certificate.len ≤ 16) × (length certificate.bytes ≡ 16) }
-    ensures { (result ≡ answer_of (run_line run (bytes_of certificate) factor weight) buf.old) × (buf.new ≡ buffer_of (run_line run (bytes_of certificate) factor weight) buf.old) }
+fn put_run(buf: &mut [u8], run: usize, certificate: &[u8], factor: u32, weight: u32) -> Written
+    requires { length certificate.now ≤ 16 }
+    ensures { (result ≡ answer_of (run_line run certificate.now factor weight) buf.old) × (buf.new ≡ buffer_of (run_line run certificate.now factor weight) buf.old) }
 {
-    let len = 2 + run_width(run, certificate.len, factor, weight);
+    let len = 2 + run_width(run, certificate.len(), factor, weight);
     if buf.len() < len {
         return Err(Refusal::Room);
     }
@@ -97,6 +90,7 @@ fn put_run(
 }
 
 // Puts line k of settings in range.
+#[tactic(auto, using(crate::proofs::Runs::certificate_within))]
 fn put_setting(settings: Settings, k: u32, buf: &mut [u8]) -> Written
     requires { setting_fits settings k ≡ true }
     ensures { (result ≡ answer_of (setting_line settings k) buf.old) × (buf.new ≡ buffer_of (setting_line settings k) buf.old) }
@@ -104,25 +98,23 @@ fn put_setting(settings: Settings, k: u32, buf: &mut [u8]) -> Written
     let numbers = settings.numbers;
     if k == 1 {
         let group = numbers.group;
-        return put_line(buf, Kind::Sizes, &[group.g as u64, group.m as u64]);
+        let sizes = LineNumbers::of(&[group.g as u64, group.m as u64]);
+        return put_line(buf, Kind::Sizes, &sizes);
     }
     if k == 2 {
-        return put_line(
-            buf,
-            Kind::Filter,
-            &[
-                u64::from(numbers.q),
-                u64::from(numbers.r),
-                u64::from(numbers.p),
-            ],
-        );
+        let filter = LineNumbers::of(&[
+            u64::from(numbers.q),
+            u64::from(numbers.r),
+            u64::from(numbers.p),
+        ]);
+        return put_line(buf, Kind::Filter, &filter);
     }
     let run = turn_of(k);
     let certificate = settings.certificates[run];
     put_run(
         buf,
         run,
-        certificate,
+        &certificate.bytes[..certificate.len],
         numbers.factors[run],
         numbers.weights[run],
     )

@@ -1,16 +1,17 @@
 // The settings, read line by line.
-ghost use Rattle.std.specs.Prelude.{◌≡◌, [], ◌∷◌, ◌+◌, ◌-◌, ◌≤◌, ◌<◌, drop, get_or, length, take};
-ghost use Rattle.fields.specs.Text.{first_field, later_fields, tabs_in};
-ghost use Rattle.lines.specs.Settling.{standing_number, any_group, standing_at, certificate_of, expecting, is_kind, missing, settle_certificate, settle_factor, settle_line, settle_plain, settle_run, settle_text, settle_weight, settling_start, stopped, with_filter, run_with, turn_of, with_sizes, kept};
+ghost use Rattle.std.specs.Prelude.{◌≡◌, [], ◌∷◌, ◌-◌, ◌≤◌, ◌<◌, drop, length, take};
+ghost use Rattle.fields.specs.Text.{first_field, later_fields};
+ghost use Rattle.lines.specs.Settling.{any_group, standing_at, certificate_of, expecting, is_kind, missing, settle_line, settle_plain, settle_run, settle_text, settled, settling_start, stopped, with_filter, run_with, turn_of, with_sizes};
+ghost use Rattle.lines.specs.Table.{limit_of};
 ghost use Rattle.lines.specs.declared.kind.Kind.{Kind};
-ghost use Rattle.lines.specs.Walk.{Here};
 
+use crate::counted::Counted;
 use crate::kind::Kind;
 use crate::table::{limit_of, runs_of};
 use crate::typed::narrow;
 use crate::values::read_values;
 use fields::text::ends_at;
-use fields::{certificate_end, read_at, scan};
+use fields::{Limit, certificate_end, read_at, scan};
 use message::{Certificate, Settings};
 use units::limits::LINE;
 use units::{Group, Numbers, Refusal};
@@ -22,26 +23,18 @@ pub struct Settling {
     pub(crate) settings: Settings,
 }
 
-#[derive(Clone, Copy)]
-pub enum Standing {
+// Whether more lines are wanted.
+#[derive(Clone, Copy, PartialEq, Eq)]
+pub enum Wanted {
     More,
     Whole,
-    Refused(Refusal),
 }
 
-impl Standing {
-    pub fn number(self) -> u32
-        ensures { result ≡ standing_number self }
-    {
-        match self {
-            Standing::More => 0,
-            Standing::Whole => 0,
-            Standing::Refused(why) => why.number(),
-        }
-    }
-}
+// How the settings stand after a line.
+pub type Standing = Result<Wanted, Refusal>;
 
 // What a line led to: what is read now, and whether more lines are wanted.
+// The settings stand with a refusal too, as they were (`stopped`).
 #[derive(Clone, Copy)]
 pub struct Settled {
     pub next: Settling,
@@ -52,9 +45,9 @@ fn standing_at(line: u32, m: usize) -> Standing
     ensures { result ≡ standing_at line m }
 {
     if 2 <= line && (line - 2) as usize == m {
-        Standing::Whole
+        Ok(Wanted::Whole)
     } else {
-        Standing::More
+        Ok(Wanted::More)
     }
 }
 
@@ -82,6 +75,13 @@ pub(crate) fn turn_of(line: u32) -> usize
     ensures { result ≡ line - 3 }
 {
     line.saturating_sub(3) as usize
+}
+
+// What the number at a place of K is judged by, in a run's turn.
+fn limit_at(place: usize, turn: usize) -> Limit
+    ensures { result ≡ limit_of Kind.Run place any_group turn }
+{
+    limit_of(Kind::Run, place, any_group(), turn as u64)
 }
 
 fn with_sizes(settings: Settings, g: u64, m: u64) -> Settings
@@ -192,7 +192,7 @@ impl Settling {
     {
         Refusal::Settings {
             line: self.line,
-            reason: 2,
+            reason: Refusal::Unended.number(),
         }
     }
 
@@ -201,137 +201,84 @@ impl Settling {
     {
         Settled {
             next: self,
-            answer: Standing::Refused(Refusal::Settings {
+            answer: Err(Refusal::Settings {
                 line: self.line,
                 reason: why.number(),
             }),
         }
     }
 
-    fn keep(self, settings: Settings) -> Settled
-        requires { self.line ≤ 1000 }
-        ensures { result ≡ kept self settings }
+    // What a line led to that gave settings, or a refusal.
+    fn led(self, taken: Result<Settings, Refusal>) -> Settled
+        requires { turn_of self < 16 }
+        ensures { result ≡ settled self taken }
     {
-        Settled {
-            next: Settling {
-                line: self.line + 1,
-                settings,
+        match taken {
+            Ok(settings) => Settled {
+                next: Settling {
+                    line: self.line + 1,
+                    settings,
+                },
+                answer: standing_at(self.line, settings.numbers.group.m),
             },
-            answer: standing_at(self.line, settings.numbers.group.m),
+            Err(why) => self.stop(why),
         }
     }
 
     // G, the line with the number of controllers and of runs.
-    fn take_sizes(self, text: &[u8], fields: usize) -> Settled
-        requires { (self.line ≤ 1000) × (fields ≡ tabs_in text.now) }
-        ensures { result ≡ expecting self Kind.Sizes text.now (settle_plain self Kind.Sizes (with_sizes self.settings) (later_fields text.now)) }
+    fn take_sizes(self, line: Counted<'_>) -> Result<Settings, Refusal>
+        ensures { settled self result ≡ expecting self Kind.Sizes line.entry.text.now (settle_plain self Kind.Sizes (with_sizes self.settings) (later_fields line.entry.text.now)) }
     {
-        if !is_kind(text, Kind::Sizes) {
-            return self.stop(Refusal::Kind);
+        if !is_kind(line.text, Kind::Sizes) {
+            return Err(Refusal::Kind);
         }
         let mut v = [0u64; 34];
-        let settings = self.settings;
-        match read_values(text, Kind::Sizes, any_group(), &mut v, fields) {
-            Ok(()) => self.keep(with_sizes(settings, v[0], v[1])),
-            Err(why) => self.stop(why),
-        }
+        read_values(line, Kind::Sizes, any_group(), &mut v)?;
+        Ok(with_sizes(self.settings, v[0], v[1]))
     }
 
     // N, the line with the filter's numbers.
-    fn take_filter(self, text: &[u8], fields: usize) -> Settled
-        requires { (self.line ≤ 1000) × (fields ≡ tabs_in text.now) }
-        ensures { result ≡ expecting self Kind.Filter text.now (settle_plain self Kind.Filter (with_filter self.settings) (later_fields text.now)) }
+    fn take_filter(self, line: Counted<'_>) -> Result<Settings, Refusal>
+        ensures { settled self result ≡ expecting self Kind.Filter line.entry.text.now (settle_plain self Kind.Filter (with_filter self.settings) (later_fields line.entry.text.now)) }
     {
-        if !is_kind(text, Kind::Filter) {
-            return self.stop(Refusal::Kind);
+        if !is_kind(line.text, Kind::Filter) {
+            return Err(Refusal::Kind);
         }
         let mut v = [0u64; 34];
-        let settings = self.settings;
-        match read_values(text, Kind::Filter, any_group(), &mut v, fields) {
-            Ok(()) => self.keep(with_filter(settings, v[0], v[1], v[2])),
-            Err(why) => self.stop(why),
-        }
-    }
-
-    // The last field of K: the weight.
-    fn take_weight(self, text: &[u8], from: usize, end: usize, factor: u64, at: usize) -> Settled
-        requires { (self.line ≤ 1000) × (turn_of self < 16) × (from ≤ end) × (end ≤ length text.now) × (end - from ≤ 16) × (take (end - from) (drop from text.now) ≡ get_or (later_fields text.now) 1 []) × (length (later_fields text.now) ≡ 4) × Here text.now at 3 }
-        ensures { result ≡ settle_weight self (later_fields text.now) factor }
-    {
-        let turn = turn_of(self.line);
-        let limit = limit_of(Kind::Run, 2, any_group(), turn as u64);
-        let spelling = limit.spelling;
-        let settings = self.settings;
-        match read_at(text, at, spelling, limit.low, limit.high) {
-            Ok(field) => {
-                let certificate = certificate_of(text, from, end);
-                self.keep(with_run(settings, turn, certificate, factor, field.n))
-            }
-            Err(why) => self.stop(Refusal::from(why)),
-        }
-    }
-
-    // The third field of K: the factor.
-    fn take_factor(self, text: &[u8], from: usize, end: usize) -> Settled
-        requires { (self.line ≤ 1000) × (turn_of self < 16) × (from ≤ end) × (end ≤ length text.now) × (end - from ≤ 16) × (take (end - from) (drop from text.now) ≡ get_or (later_fields text.now) 1 []) × (length (later_fields text.now) ≡ 4) × Here text.now (end + 1) 2 }
-        ensures { result ≡ settle_factor self (later_fields text.now) }
-    {
-        let turn = turn_of(self.line);
-        let limit = limit_of(Kind::Run, 1, any_group(), turn as u64);
-        let spelling = limit.spelling;
-        match read_at(text, end + 1, spelling, limit.low, limit.high) {
-            Ok(field) => self.take_weight(text, from, end, field.n, field.next),
-            Err(why) => self.stop(Refusal::from(why)),
-        }
-    }
-
-    // The second field of K: the certificate.
-    fn take_certificate(self, text: &[u8], at: usize) -> Settled
-        requires { (self.line ≤ 1000) × (turn_of self < 16) × (length (later_fields text.now) ≡ 4) × Here text.now at 1 }
-        ensures { result ≡ settle_certificate self (later_fields text.now) }
-    {
-        match certificate_end(text, at) {
-            Some(end) => self.take_factor(text, at, end),
-            None => self.stop(Refusal::Form),
-        }
+        read_values(line, Kind::Filter, any_group(), &mut v)?;
+        Ok(with_filter(self.settings, v[0], v[1], v[2]))
     }
 
     // K, the line of the run whose turn it is.
-    fn take_run(self, text: &[u8], fields: usize) -> Settled
-        requires { (self.line ≤ 1000) × (turn_of self < 16) × (fields ≡ tabs_in text.now) }
-        ensures { result ≡ expecting self Kind.Run text.now (settle_run self (later_fields text.now)) }
+    fn take_run(self, line: Counted<'_>) -> Result<Settings, Refusal>
+        requires { turn_of self < 16 }
+        ensures { settled self result ≡ expecting self Kind.Run line.entry.text.now (settle_run self (later_fields line.entry.text.now)) }
     {
-        if !is_kind(text, Kind::Run) {
-            return self.stop(Refusal::Kind);
+        if !is_kind(line.text, Kind::Run) {
+            return Err(Refusal::Kind);
         }
-        if fields != 4 {
-            return self.stop(Refusal::Fields);
+        if line.fields != 4 {
+            return Err(Refusal::Fields);
         }
+        let text = line.text;
         let turn = turn_of(self.line);
-        let limit = limit_of(Kind::Run, 0, any_group(), turn as u64);
-        let spelling = limit.spelling;
-        match read_at(text, 2, spelling, limit.low, limit.high) {
-            Ok(field) => self.take_certificate(text, field.next),
-            Err(why) => self.stop(Refusal::from(why)),
-        }
+        let run = read_at(text, 2, limit_at(0, turn))?;
+        let end = certificate_end(text, run.next).ok_or(Refusal::Form)?;
+        let factor = read_at(text, end + 1, limit_at(1, turn))?;
+        let weight = read_at(text, factor.next, limit_at(2, turn))?;
+        let certificate = certificate_of(text, run.next, end);
+        Ok(with_run(self.settings, turn, certificate, factor.n, weight.n))
     }
 
-    fn take_text(self, text: &[u8], fields: usize) -> Settled
-        requires { fields ≡ tabs_in text.now }
-        ensures { result ≡ settle_text self text.now }
+    fn take_text(self, line: Counted<'_>) -> Settled
+        ensures { result ≡ settle_text self line.entry.text.now }
     {
-        let line = self.line;
-        if line == 1 {
-            return self.take_sizes(text, fields);
+        match self.line {
+            1 => self.led(self.take_sizes(line)),
+            2 => self.led(self.take_filter(line)),
+            k if runs_of(self.settings.numbers.group.m) <= turn_of(k) => self.stop(Refusal::Kind),
+            _ => self.led(self.take_run(line)),
         }
-        if line == 2 {
-            return self.take_filter(text, fields);
-        }
-        let m = self.settings.numbers.group.m;
-        if runs_of(m) <= turn_of(line) {
-            return self.stop(Refusal::Kind);
-        }
-        self.take_run(text, fields)
     }
 
     // Takes the next line of the settings.
@@ -342,11 +289,9 @@ impl Settling {
             return self.stop(Refusal::Long);
         }
         let seen = scan(line);
-        let feed = seen.feed;
-        let tabs = seen.tabs;
-        if feed + 1 != line.len() {
+        if seen.feed + 1 != line.len() {
             return self.stop(Refusal::Unended);
         }
-        self.take_text(&line[..feed], tabs)
+        self.take_text(Counted::of(line, seen))
     }
 }

@@ -7,11 +7,13 @@ ghost use Rattle.lines.specs.Reading.{limit_after};
 ghost use Rattle.lines.specs.Table.{count_of};
 
 use crate::kind::Kind;
-use crate::table::{Limit, count_of, limit_of};
+use crate::table::{count_of, limit_of};
 use crate::values::label_in;
 use fields::text::{TAB, is_at};
-use fields::{Fault, Field, read_decimal_here, read_here};
+use fields::{Fault, Field, Limit, read_decimal_here, read_here};
 use units::Group;
+
+// (input, kind, group, v): what is read, by what table, and where to; no two functions of another file share all.
 
 // Reads the numbers from place `from` up to `to`, each after its tab, and gives the place after them; nothing where one is not as it should be.
 fn go_on(
@@ -32,12 +34,7 @@ fn go_on(
             return None;
         }
         let limit = limit_of(kind, k, group, label_in(v, k));
-        let spelling = limit.spelling;
-        let low = limit.low;
-        let high = limit.high;
-        let Ok(field) = read_here(input, at + 1, spelling, low, high) else {
-            return None;
-        };
+        let field = read_here(input, at + 1, limit).ok()?;
         v[k] = field.n;
         at = field.next;
     }
@@ -53,6 +50,7 @@ fn limit_at(kind: Kind, k: usize, group: Group, v: &[u64; 34]) -> Limit
 }
 
 // The decimal number that stands after a tab.
+#[tactic(auto, using(crate::proofs::Straights::after_none, crate::proofs::Straights::after_some, crate::proofs::Straights::at_inside))]
 fn after_tab(input: &[u8], at: usize, limit: Limit) -> Result<Field, Fault>
     requires { limit.spelling ≡ Spelling.Decimal }
     ensures { AfterTab input.now at limit result }
@@ -60,9 +58,7 @@ fn after_tab(input: &[u8], at: usize, limit: Limit) -> Result<Field, Fault>
     if !is_at(input, at, TAB) {
         return Err(Fault::Form);
     }
-    let low = limit.low;
-    let high = limit.high;
-    read_decimal_here(input, at + 1, low, high)
+    read_decimal_here(input, at + 1, limit.low, limit.high)
 }
 
 // The three numbers of M, the most common line, one after the other.
@@ -70,17 +66,11 @@ pub(crate) fn reading_in(input: &[u8], group: Group, v: &mut [u64; 34]) -> Optio
     requires { Trod Kind.Reading group input.now v.old 0 1 }
     ensures { (at : ℕ) → result ≡ Some at → Trod Kind.Reading group input.now v.new 3 at }
 {
-    let Ok(label) = after_tab(input, 1, limit_at(Kind::Reading, 0, group, v)) else {
-        return None;
-    };
+    let label = after_tab(input, 1, limit_at(Kind::Reading, 0, group, v)).ok()?;
     v[0] = label.n;
-    let Ok(run) = after_tab(input, label.next, limit_at(Kind::Reading, 1, group, v)) else {
-        return None;
-    };
+    let run = after_tab(input, label.next, limit_at(Kind::Reading, 1, group, v)).ok()?;
     v[1] = run.n;
-    let Ok(raw) = after_tab(input, run.next, limit_at(Kind::Reading, 2, group, v)) else {
-        return None;
-    };
+    let raw = after_tab(input, run.next, limit_at(Kind::Reading, 2, group, v)).ok()?;
     v[2] = raw.n;
     Some(raw.next)
 }
@@ -93,8 +83,5 @@ pub(crate) fn numbers_in(input: &[u8], kind: Kind, group: Group, v: &mut [u64; 3
     let heads = count_of(kind, group, 0);
     let at = go_on(input, kind, group, v, 0, heads, 1)?;
     let total = count_of(kind, group, v[2]);
-    if total == heads {
-        return Some(at);
-    }
     go_on(input, kind, group, v, heads, total, at)
 }

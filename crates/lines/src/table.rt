@@ -4,6 +4,7 @@ ghost use Rattle.std.specs.Int.Count.{ones};
 ghost use Rattle.lines.specs.Table.{alternate, count_of, limit_for, limit_of, quantity_at, row, runs_of, spelling_of};
 
 use crate::kind::Kind;
+pub use fields::Limit;
 use fields::Spelling;
 use floats::bits::{TARGET_BITS, VARIANCE_BITS, X_BITS};
 use units::Group;
@@ -36,28 +37,16 @@ pub enum Quantity {
     Weight,
 }
 
-// A place's spelling, and the range of its number, both ends among it.
-#[derive(Clone, Copy)]
-pub struct Limit {
-    pub spelling: Spelling,
-    pub low: u64,
-    pub high: u64,
-}
-
 // What stands at a place of a row of four; the last stands at every later place too.
 fn at_place(place: usize, a: Quantity, b: Quantity, c: Quantity, d: Quantity) -> Quantity
     ensures { result ≡ row place a b c d }
 {
-    if place == 0 {
-        return a;
+    match place {
+        0 => a,
+        1 => b,
+        2 => c,
+        _ => d,
     }
-    if place == 1 {
-        return b;
-    }
-    if place == 2 {
-        return c;
-    }
-    d
 }
 
 fn either(first: bool, a: Quantity, b: Quantity) -> Quantity
@@ -121,10 +110,7 @@ pub(crate) fn quantity_at(kind: Kind, place: usize) -> Quantity
                 last,
             )
         }
-        Kind::Due => Quantity::Round,
-        Kind::CollectingEnds => Quantity::Round,
-        Kind::VotingEnds => Quantity::Round,
-        Kind::Floor => Quantity::Round,
+        Kind::Due | Kind::CollectingEnds | Kind::VotingEnds | Kind::Floor => Quantity::Round,
         Kind::Start => at_place(
             place,
             Quantity::Sender,
@@ -164,26 +150,26 @@ impl Quantity {
         match self {
             Quantity::Mask => Spelling::Hex4,
             Quantity::X => Spelling::Hex16,
-            Quantity::Variance => Spelling::Hex16,
-            Quantity::Target => Spelling::Hex16,
+            Quantity::Variance | Quantity::Target => Spelling::Hex16,
             Quantity::Factor => Spelling::Factor,
-            Quantity::Sender => Spelling::Decimal,
-            Quantity::RunNumber => Spelling::Decimal,
-            Quantity::Round => Spelling::Decimal,
-            Quantity::State => Spelling::Decimal,
-            Quantity::Base => Spelling::Decimal,
-            Quantity::Raw => Spelling::Decimal,
-            Quantity::Number => Spelling::Decimal,
-            Quantity::Controllers => Spelling::Decimal,
-            Quantity::Runs => Spelling::Decimal,
-            Quantity::Noise => Spelling::Decimal,
-            Quantity::First => Spelling::Decimal,
-            Quantity::Turn => Spelling::Decimal,
-            Quantity::Weight => Spelling::Decimal,
+            Quantity::Sender
+            | Quantity::RunNumber
+            | Quantity::Round
+            | Quantity::State
+            | Quantity::Base
+            | Quantity::Raw
+            | Quantity::Number
+            | Quantity::Controllers
+            | Quantity::Runs
+            | Quantity::Noise
+            | Quantity::First
+            | Quantity::Turn
+            | Quantity::Weight => Spelling::Decimal,
         }
     }
 }
 
+// A function, since edit floats_as_decimal_text has its line.
 fn made(spelling: Spelling, low: u64, high: u64) -> Limit
     ensures { result ≡ record { spelling = spelling; low = low; high = high } }
 {
@@ -253,21 +239,12 @@ pub(crate) fn count_of(kind: Kind, group: Group, mask: u64) -> usize
     ensures { (result ≡ count_of kind group mask) × (result ≤ 34) }
 {
     match kind {
-        Kind::Reading => 3,
-        Kind::Query => 3,
+        Kind::Reading | Kind::Query | Kind::Filter | Kind::Run => 3,
         Kind::Reply => 3 + bits_of_mask(mask),
-        Kind::Advert => 2,
+        Kind::Advert | Kind::Start | Kind::Sizes => 2,
         Kind::Update => 2 + 2 * runs_of(group.m),
         Kind::Vote => 4,
         Kind::Setpoints => 4 + runs_of(group.m),
-        Kind::Due => 1,
-        Kind::CollectingEnds => 1,
-        Kind::VotingEnds => 1,
-        Kind::Floor => 1,
-        Kind::Start => 2,
-        Kind::Refused => 1,
-        Kind::Sizes => 2,
-        Kind::Filter => 3,
-        Kind::Run => 3,
+        Kind::Due | Kind::CollectingEnds | Kind::VotingEnds | Kind::Floor | Kind::Refused => 1,
     }
 }

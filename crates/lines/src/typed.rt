@@ -1,5 +1,5 @@
 // A message from the numbers of its line.
-ghost use Rattle.std.specs.Prelude.{◌≡◌, ◌≤◌};
+ghost use Rattle.std.specs.Prelude.{◌≡◌};
 ghost use Rattle.floats.specs.Bits.{float_of};
 ghost use Rattle.lines.specs.Lists.{column};
 ghost use Rattle.lines.specs.Values.{estimate_in, head_of, message_of, reading_in, target_in, word};
@@ -84,9 +84,7 @@ fn head_of(kind: Kind, a: u64, b: u64, c: u64, d: u64) -> Head
             floor: RoundLabel(wb),
         },
         Kind::Refused => Head::Refused { number: wa },
-        Kind::Sizes => Head::Refused { number: 3 },
-        Kind::Filter => Head::Refused { number: 3 },
-        Kind::Run => Head::Refused { number: 3 },
+        Kind::Sizes | Kind::Filter | Kind::Run => Head::Refused { number: 3 },
     }
 }
 
@@ -138,6 +136,7 @@ fn targets_in(n: usize, v: &[u64; 34]) -> [f64; 16]
     std::array::from_fn(|i| if i < n { float_of(v[4 + i]) } else { 0.0 })
 }
 
+#[tactic(auto, using(crate::proofs::Making::message_made, crate::proofs::Making::plain_made))]
 pub(crate) fn message_of(kind: Kind, group: Group, v: &[u64; 34]) -> Message
     ensures { result ≡ message_of group kind v.now }
 {

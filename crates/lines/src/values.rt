@@ -5,6 +5,7 @@ ghost use Rattle.lines.specs.Reading.{enough, read_rest, read_values, values};
 ghost use Rattle.lines.specs.Table.{count_of};
 ghost use Rattle.lines.specs.Walk.{Filled, Here, Rest, Walked};
 
+use crate::counted::Counted;
 use crate::kind::Kind;
 use crate::table::{count_of, limit_of};
 use fields::read_at;
@@ -33,7 +34,7 @@ fn read_on(
     let mut at = start;
     for k in from..to {
         let limit = limit_of(kind, k, group, label_in(v, k));
-        let field = read_at(text, at, limit.spelling, limit.low, limit.high)?;
+        let field = read_at(text, at, limit)?;
         v[k] = field.n;
         at = field.next;
     }
@@ -41,56 +42,46 @@ fn read_on(
 }
 
 // Whether there are so many fields that a line of a kind can be judged.
+#[tactic(auto, unfolding(crate::specs::Reading::enough, units::specs::Pick::pick))]
 fn is_enough(kind: Kind, group: Group, fields: usize) -> bool
     ensures { result ≡ enough kind group fields }
 {
     let heads = count_of(kind, group, 0);
-    if kind.letter() == b'R' {
-        return heads <= fields;
+    match kind {
+        Kind::Reply => heads <= fields,
+        _ => fields == heads,
     }
-    fields == heads
 }
 
 // The fields are counted once R's mask is known, and those that are left are read.
 fn read_rest(
-    text: &[u8],
+    line: Counted<'_>,
     kind: Kind,
     group: Group,
     v: &mut [u64; 34],
-    fields: usize,
     heads: usize,
     start: usize,
 ) -> Verdict
-    requires { (fields ≡ length (later_fields text.now)) × (heads ≡ count_of kind group 0) × (heads ≤ fields) × Here text.now start heads × Rest v.old heads × (length v.old ≡ 34) }
-    ensures { Filled kind group text.now v.new (read_rest kind group (later_fields text.now) (values (take heads v.old))) result }
+    requires { (heads ≡ count_of kind group 0) × (heads ≤ line.fields) × Here line.text.now start heads × Rest v.old heads × (length v.old ≡ 34) }
+    ensures { Filled kind group line.entry.text.now v.new (read_rest kind group (later_fields line.entry.text.now) (values (take heads v.old))) result }
 {
     let total = count_of(kind, group, v[2]);
-    if fields != total {
+    if line.fields != total {
         return Err(Refusal::Fields);
     }
-    match read_on(text, kind, group, v, heads, total, start) {
-        Ok(_) => Ok(()),
-        Err(why) => Err(why),
-    }
+    read_on(line.text, kind, group, v, heads, total, start)?;
+    Ok(())
 }
 
-// Reads all numbers of a line of a kind, whose fields are counted already.
-pub(crate) fn read_values(
-    text: &[u8],
-    kind: Kind,
-    group: Group,
-    v: &mut [u64; 34],
-    fields: usize,
-) -> Verdict
-    requires { (fields ≡ length (later_fields text.now)) × Here text.now 2 0 × Rest v.old 0 × (length v.old ≡ 34) }
-    ensures { Filled kind group text.now v.new (read_values kind group (later_fields text.now)) result }
+// Reads all numbers of a line of a kind.
+pub(crate) fn read_values(line: Counted<'_>, kind: Kind, group: Group, v: &mut [u64; 34]) -> Verdict
+    requires { Here line.text.now 2 0 × Rest v.old 0 × (length v.old ≡ 34) }
+    ensures { Filled kind group line.entry.text.now v.new (read_values kind group (later_fields line.entry.text.now)) result }
 {
-    if !is_enough(kind, group, fields) {
+    if !is_enough(kind, group, line.fields) {
         return Err(Refusal::Fields);
     }
     let heads = count_of(kind, group, 0);
-    match read_on(text, kind, group, v, 0, heads, 2) {
-        Ok(at) => read_rest(text, kind, group, v, fields, heads, at),
-        Err(why) => Err(why),
-    }
+    let at = read_on(line.text, kind, group, v, 0, heads, 2)?;
+    read_rest(line, kind, group, v, heads, at)
 }

@@ -3,10 +3,10 @@ ghost use Rattle.std.specs.Prelude.{◌≡◌, ◌+◌, ◌*◌, ◌≤◌, leb,
 ghost use Rattle.std.proofs.lemmas.List.Edits.{sets};
 ghost use Rattle.fields.specs.Text.{tabbed};
 ghost use Rattle.message.specs.Message.{message_fits, plain};
-ghost use Rattle.lines.specs.Writing.{answer_of, buffer_of, line_of, plain_fits, refusal_line, spell_line, texts_to, write_answer, write_buffer, written_number};
+ghost use Rattle.lines.specs.Writing.{answer_of, buffer_of, line_of, plain_fits, refusal_line, spell_line, texts_to, write_answer, write_buffer};
 
 use crate::kind::Kind;
-use crate::numbers::{head_numbers, kind_is, numbers_of};
+use crate::numbers::{LineNumbers, head_numbers, kind_is, numbers_of};
 use crate::table::quantity_at;
 use fields::text::{LINE_FEED, TAB};
 use fields::{put_at, width};
@@ -15,16 +15,6 @@ use units::{Group, Refusal};
 
 // How many bytes were written, or why none.
 pub type Written = Result<usize, Refusal>;
-
-// The number of what was written, 0 where it was.
-pub fn written_number(written: Written) -> u32
-    ensures { result ≡ written_number written }
-{
-    match written {
-        Ok(_) => 0,
-        Err(why) => why.number(),
-    }
-}
 
 // The bytes of the numbers, each with its tab.
 fn widths(kind: Kind, numbers: &[u64]) -> usize
@@ -52,10 +42,10 @@ fn put_numbers(buf: &mut [u8], kind: Kind, numbers: &[u64]) -> usize
 }
 
 // Whether so many bytes are enough for a line; they are counted only where the longest line of so many numbers would not fit.
-fn is_enough_for(len: usize, kind: Kind, numbers: &[u64]) -> bool
-    requires { length numbers.now ≤ 34 }
+fn is_enough_for(len: usize, kind: Kind, numbers: &LineNumbers) -> bool
     ensures { result ≡ leb (2 + length (tabbed (texts_to kind numbers.now (length numbers.now)))) len }
 {
+    let numbers = numbers.as_slice();
     if 2 + 17 * numbers.len() <= len {
         return true;
     }
@@ -63,15 +53,14 @@ fn is_enough_for(len: usize, kind: Kind, numbers: &[u64]) -> bool
 }
 
 // Puts a whole line, or 16 where there is no room for it.
-pub(crate) fn put_line(buf: &mut [u8], kind: Kind, numbers: &[u64]) -> Written
-    requires { length numbers.now ≤ 34 }
+pub(crate) fn put_line(buf: &mut [u8], kind: Kind, numbers: &LineNumbers) -> Written
     ensures { (result ≡ answer_of (line_of kind numbers.now) buf.old) × (buf.new ≡ buffer_of (line_of kind numbers.now) buf.old) }
 {
     if !is_enough_for(buf.len(), kind, numbers) {
         return Err(Refusal::Room);
     }
     buf[0] = kind.letter();
-    let end = put_numbers(buf, kind, numbers);
+    let end = put_numbers(buf, kind, numbers.as_slice());
     buf[end] = LINE_FEED;
     Ok(end + 1)
 }
@@ -84,7 +73,7 @@ pub fn write(message: Message, group: Group, buf: &mut [u8]) -> Written
         return Err(Refusal::Range);
     }
     let numbers = numbers_of(message, group);
-    put_line(buf, kind_is(message.head), numbers.as_slice())
+    put_line(buf, kind_is(message.head), &numbers)
 }
 
 // Writes the line of a message that carries no array, from its head alone: 6 also where it is of a kind that carries one.
@@ -93,7 +82,7 @@ pub fn write_plain(head: Head, group: Group, buf: &mut [u8]) -> Written
 {
     if head.is_plain() & group.in_range() & head.in_range(group) {
         let numbers = head_numbers(head);
-        return put_line(buf, kind_is(head), numbers.as_slice());
+        return put_line(buf, kind_is(head), &numbers);
     }
     Err(Refusal::Range)
 }
@@ -102,5 +91,6 @@ pub fn write_plain(head: Head, group: Group, buf: &mut [u8]) -> Written
 pub fn write_refusal(why: Refusal, buf: &mut [u8]) -> Written
     ensures { (result ≡ answer_of (refusal_line why) buf.old) × (buf.new ≡ buffer_of (refusal_line why) buf.old) }
 {
-    put_line(buf, Kind::Refused, &[u64::from(why.number())])
+    let numbers = LineNumbers::of(&[u64::from(why.number())]);
+    put_line(buf, Kind::Refused, &numbers)
 }

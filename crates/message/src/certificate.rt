@@ -6,7 +6,8 @@ use units::bytes::is_visible;
 use units::limits::CERTIFICATE;
 
 // The first `len` bytes count, the others are 0. A place that is no run has len 0.
-#[derive(Clone, Copy)]
+// A length beside its bytes, in fixed memory and by value: `certificate_fits` judges one that is out of range.
+#[derive(Clone, Copy, PartialEq, Eq)]
 pub struct Certificate {
     pub len: usize,
     pub bytes: [u8; 16],
@@ -33,8 +34,7 @@ impl Certificate {
     pub fn in_range(self, run: bool) -> bool
         ensures { result ≡ certificate_fits run self }
     {
-        let len = self.len;
         let mut places = self.bytes.iter().enumerate();
-        len_in_range(run, len) & places.all(|(i, b)| byte_in_range(i < len, *b))
+        len_in_range(run, self.len) && places.all(|(i, b)| byte_in_range(i < self.len, *b))
     }
 }

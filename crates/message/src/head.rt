@@ -60,11 +60,13 @@ pub enum Head {
         floor: RoundLabel,
     },
     Refused {
+        // as X carries it, in range or not: `head_fits` judges it
         number: u32,
     },
 }
 
 // The runs whose readings a message carries, as a mask, and how many runs' estimates and targets.
+// 0 for none, by definition `carried`: what goes by it ranges up to the number.
 #[derive(Clone, Copy)]
 pub struct Carried {
     pub readings: u32,
@@ -86,7 +88,7 @@ fn carry(readings: u32, estimates: usize, targets: usize) -> Carried
 fn reading_fits(group: Group, label: RoundLabel, run: usize, raw: u32) -> bool
     ensures { result ≡ head_fits group (Head.Reading label run raw) }
 {
-    label.in_range() & (run < group.m) & (raw <= RAW_TOP)
+    label.in_range() && run < group.m && raw <= RAW_TOP
 }
 
 // Q and R.
@@ -94,7 +96,7 @@ fn reading_fits(group: Group, label: RoundLabel, run: usize, raw: u32) -> bool
 fn mask_fits(group: Group, sender: usize, label: RoundLabel, mask: u32) -> bool
     ensures { result ≡ head_fits group (Head.Query sender label mask) }
 {
-    (sender < group.g) & label.in_range() & mask_in_range(group.m, mask)
+    sender < group.g && label.in_range() && mask_in_range(group.m, mask)
 }
 
 // A and U.
@@ -102,14 +104,15 @@ fn mask_fits(group: Group, sender: usize, label: RoundLabel, mask: u32) -> bool
 fn state_fits(group: Group, sender: usize, state: StateLabel) -> bool
     ensures { result ≡ head_fits group (Head.Advert sender state) }
 {
-    (sender < group.g) & state.in_range()
+    sender < group.g && state.in_range()
 }
 
 // D and S.
+#[tactic(auto, unfolding(crate::specs::Head::head_fits))]
 fn digest_fits(group: Group, sender: usize, label: RoundLabel, digest: Digest) -> bool
     ensures { result ≡ head_fits group (Head.Vote sender label digest) }
 {
-    (sender < group.g) & label.in_range() & digest.legal(group.m, label)
+    sender < group.g && label.in_range() && digest.legal(group.m, label)
 }
 
 impl Head {
@@ -146,7 +149,7 @@ impl Head {
             | Head::CollectingEnds { label }
             | Head::VotingEnds { label }
             | Head::Floor { label } => label.in_range(),
-            Head::Start { own, floor } => (own < group.g) & floor.floor_in_range(),
+            Head::Start { own, floor } => own < group.g && floor.floor_in_range(),
             Head::Refused { number } => is_number(number),
         }
     }

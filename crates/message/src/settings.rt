@@ -16,9 +16,8 @@ impl Settings {
     pub fn in_range(self) -> bool
         ensures { result ≡ settings_fit self }
     {
-        let numbers = self.numbers;
-        let m = numbers.group.m;
+        let m = self.numbers.group.m;
         let mut places = self.certificates.iter().enumerate();
-        numbers.in_range() & places.all(|(i, certificate)| certificate.in_range(i < m))
+        self.numbers.in_range() && places.all(|(i, certificate)| certificate.in_range(i < m))
     }
 }

@@ -7,6 +7,7 @@ use crate::readings::readings_in_range;
 use floats::ranges::{state_in_range, targets_in_range};
 use units::{Estimate, Group};
 
+// Arrays of all sixteen places, whatever the kind: `message_fits` judges the places that a kind has no use for, too.
 #[derive(Clone, Copy)]
 pub struct Message {
     pub head: Head,
@@ -37,15 +38,11 @@ impl Message {
     pub fn in_range(self, group: Group) -> bool
         ensures { result ≡ message_fits group self }
     {
-        let head = self.head;
-        let readings = self.readings;
-        let estimates = self.estimates;
-        let targets = self.targets;
-        let carried = head.carries(group);
+        let carried = self.head.carries(group);
         group.in_range()
-            & head.in_range(group)
-            & readings_in_range(carried.readings, readings)
-            & state_in_range(estimates, carried.estimates)
-            & targets_in_range(targets, carried.targets)
+            && self.head.in_range(group)
+            && readings_in_range(carried.readings, self.readings)
+            && state_in_range(self.estimates, carried.estimates)
+            && targets_in_range(self.targets, carried.targets)
     }
 }

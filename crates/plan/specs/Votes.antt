@@ -7,17 +7,14 @@ use Rattle.units.specs.declared.refusal.Refusal.TheVariants.{Own, Closed, Other,
 use Rattle.units.specs.Labels.{before}
 use Rattle.units.specs.Pick.{pick}
 use Rattle.vote.specs.declared.digest.Digest.{Digest}
-use Rattle.vote.specs.Digest.{Ballot}
-use Rattle.vote.specs.Digest.{Decision}
-use Rattle.vote.specs.Digest.{same}
+use Rattle.vote.specs.Digest.{Ballot, Decision, same}
 use Rattle.message.specs.declared.head.Head.TheVariants.{Vote, Setpoints}
 use Rattle.plan.specs.declared.brief.Brief.{Brief}
 use Rattle.plan.specs.declared.brief.Phase.{Phase}
 use Rattle.plan.specs.declared.brief.Phase.TheVariants.{Idle, Collecting, Pending, Voting}
 use Rattle.plan.specs.declared.planned.Effect.TheVariants.{Count, Issue}
-use Rattle.plan.specs.Plan.{Sent}
+use Rattle.plan.specs.Plan.{Sent, refuse, does, sends, afterwards}
 use Rattle.plan.specs.declared.planned.Plan.{Plan}
-use Rattle.plan.specs.Plan.{refuse, does, sends, afterwards}
 
 -- "D with the held mask and state label"
 abbrev pub own_digest : Brief → Digest

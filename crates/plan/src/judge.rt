@@ -8,6 +8,8 @@ use message::Head;
 use units::Refusal;
 use vote::{Decision, Digest};
 
+// (seat, digest, first) are the fields of one D and what goes out with it, put into an effect in each.
+
 // The round's end with the vote taken in: the phase becomes idle, all else is kept.
 fn end(seat: usize, digest: Digest, first: Sent, why: Refusal) -> Plan
     ensures { result ≡ end_of seat digest first why }
@@ -26,26 +28,24 @@ fn end(seat: usize, digest: Digest, first: Sent, why: Refusal) -> Plan
 
 impl Brief {
     // Whether the measurements and the state of the chosen digest are here.
+    #[tactic(auto, unfolding(crate::specs::Votes::possessed))]
     fn possesses(self, chosen: Digest) -> bool
         ensures { result ≡ possessed self chosen }
     {
-        let state = chosen.state;
-        ((chosen.mask & self.held) == chosen.mask) & state.same(self.state)
+        chosen.mask & self.held == chosen.mask && chosen.state == self.state
     }
 
     // The vote is decided: 14, then 13, else compute and send S.
+    #[tactic(auto, unfolding(crate::specs::Votes::chosen_plan, units::specs::Pick::pick))]
     fn chosen_plan(self, seat: usize, digest: Digest, first: Sent, chosen: Digest) -> Plan
         ensures { result ≡ chosen_plan self seat digest first chosen }
     {
-        let label = self.label;
-        let base = chosen.state;
-        if !base.before(label) {
+        if !chosen.state.before(self.label) {
             return end(seat, digest, first, Refusal::Behind);
         }
         if !self.possesses(chosen) {
             return end(seat, digest, first, Refusal::Lacking);
         }
-        let sender = self.own;
         sending_after(
             Effect::Issue {
                 seat,
@@ -54,8 +54,8 @@ impl Brief {
             },
             first,
             Head::Setpoints {
-                sender,
-                label,
+                sender: self.own,
+                label: self.label,
                 digest: chosen,
             },
         )
@@ -66,13 +66,12 @@ impl Brief {
     pub fn judge(self, seat: usize, digest: Digest, first: Sent, decision: Decision) -> Plan
         ensures { result ≡ judged self seat digest first decision }
     {
-        let phase = Phase::Voting;
         match decision {
             Err(_) | Ok(None) => Plan {
                 effect: Effect::Count {
                     seat,
                     digest,
-                    phase,
+                    phase: Phase::Voting,
                 },
                 first,
                 second: None,

@@ -64,31 +64,14 @@ pub enum Change {
 }
 
 impl Effect {
+    #[tactic(auto, unfolding(crate::specs::Plan::change_of, units::specs::Pick::pick))]
     pub fn change(self) -> Change
         ensures { result ≡ change_of self }
     {
         match self {
             Effect::Keep => Change::Nothing,
-            Effect::Go { phase: _ } => Change::More,
-            Effect::Begin {
-                label: _,
-                run: _,
-                raw: _,
-            } => Change::More,
             Effect::Add { run, raw } => Change::Reading { run, raw },
-            Effect::Merge { mask: _ } => Change::More,
-            Effect::Adopt { state: _, phase: _ } => Change::More,
-            Effect::Count {
-                seat: _,
-                digest: _,
-                phase: _,
-            } => Change::More,
-            Effect::Issue {
-                seat: _,
-                digest: _,
-                chosen: _,
-            } => Change::More,
-            Effect::Restart { own: _, floor: _ } => Change::More,
+            _ => Change::More,
         }
     }
 }
@@ -96,6 +79,7 @@ impl Effect {
 // A message to send, but for the arrays of R, U and S, which are those of the controller after the step.
 pub type Sent = Option<Head>;
 
+// The verdict stands beside the rest: a refusal can end the round, and what is sent goes out with it (`end_of`, `plan_voting_ends`).
 #[derive(Clone, Copy)]
 pub struct Plan {
     pub effect: Effect,
@@ -153,6 +137,7 @@ pub(crate) fn sending_both(effect: Effect, one: Head, two: Head) -> Plan
 }
 
 // An effect and a message behind what is sent already, with no gap.
+#[tactic(auto, unfolding(crate::specs::Plan::afterwards, units::specs::Pick::pick))]
 pub(crate) fn sending_after(effect: Effect, first: Sent, head: Head) -> Plan
     ensures { result ≡ afterwards effect head first }
 {

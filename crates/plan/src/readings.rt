@@ -10,52 +10,47 @@ use units::{Refusal, RoundLabel};
 
 impl Brief {
     // M of the current label while collecting: `here` is what is held for that run.
+    #[tactic(auto, unfolding(crate::specs::Readings::collected, units::specs::Pick::pick))]
     fn collect(self, here: u32, run: usize, raw: u32) -> Plan
         ensures { result ≡ collected self here run raw }
     {
-        if has(self.held, run) {
-            if here == raw {
-                doing(Effect::Keep)
-            } else {
-                refusal(Refusal::Clash)
-            }
-        } else {
+        if !has(self.held, run) {
             doing(Effect::Add { run, raw })
+        } else if here == raw {
+            doing(Effect::Keep)
+        } else {
+            refusal(Refusal::Clash)
         }
     }
 
     // M of the current label.
+    #[tactic(auto, unfolding(crate::specs::Readings::same_round, units::specs::Pick::pick))]
     fn reading_again(self, here: u32, run: usize, raw: u32) -> Plan
         ensures { result ≡ same_round self here run raw self.phase }
     {
-        let phase = self.phase;
-        match phase {
+        match self.phase {
             Phase::Idle => refusal(Refusal::Late),
             Phase::Collecting => self.collect(here, run, raw),
-            Phase::Pending => refusal(Refusal::Closed),
-            Phase::Voting => refusal(Refusal::Closed),
+            Phase::Pending | Phase::Voting => refusal(Refusal::Closed),
         }
     }
 
     // M: `here` is what is held for that run.
+    #[tactic(auto, unfolding(crate::specs::Readings::plan_reading, units::specs::Pick::pick))]
     pub fn on_reading(self, here: u32, label: RoundLabel, run: usize, raw: u32) -> Plan
         ensures { result ≡ plan_reading self here label run raw }
     {
-        let state = self.state;
-        let current = self.label;
-        if !state.before(label) {
-            return refusal(Refusal::Late);
+        if !self.state.before(label) || label < self.label {
+            refusal(Refusal::Late)
+        } else if label == self.label {
+            self.reading_again(here, run, raw)
+        } else {
+            doing(Effect::Begin { label, run, raw })
         }
-        if label.below(current) {
-            return refusal(Refusal::Late);
-        }
-        if label.same(current) {
-            return self.reading_again(here, run, raw);
-        }
-        doing(Effect::Begin { label, run, raw })
     }
 
     // R for the asked runs that are held, nothing where none is.
+    #[tactic(auto, unfolding(crate::specs::Readings::answered, units::specs::Pick::pick))]
     fn answer(self, mask: u32) -> Plan
         ensures { result ≡ answered self mask }
     {
@@ -63,61 +58,48 @@ impl Brief {
         if found == 0 {
             return doing(Effect::Keep);
         }
-        let sender = self.own;
-        let label = self.label;
         sending(
             Effect::Keep,
             Head::Reply {
-                sender,
-                label,
+                sender: self.own,
+                label: self.label,
                 mask: found,
             },
         )
     }
 
     // Q.
+    #[tactic(auto, unfolding(crate::specs::Readings::plan_query, crate::specs::Readings::in_query, units::specs::Pick::pick))]
     pub fn on_query(self, sender: usize, label: RoundLabel, mask: u32) -> Plan
         ensures { result ≡ plan_query self sender label mask }
     {
-        let current = self.label;
-        let phase = self.phase;
         if sender == self.own {
             return refusal(Refusal::Own);
         }
-        if !label.same(current) {
+        if label != self.label {
             return refusal(Refusal::Other);
         }
-        match phase {
+        match self.phase {
             Phase::Idle => refusal(Refusal::Closed),
-            Phase::Collecting => self.answer(mask),
-            Phase::Pending => self.answer(mask),
-            Phase::Voting => self.answer(mask),
+            Phase::Collecting | Phase::Pending | Phase::Voting => self.answer(mask),
         }
     }
 
     // R: `clash` tells whether one of its readings differs from what is held.
+    #[tactic(auto, unfolding(crate::specs::Readings::plan_reply, crate::specs::Readings::in_reply, units::specs::Pick::pick))]
     pub fn on_reply(self, sender: usize, label: RoundLabel, mask: u32, clash: bool) -> Plan
         ensures { result ≡ plan_reply self sender label mask clash }
     {
-        let current = self.label;
-        let phase = self.phase;
         if sender == self.own {
             return refusal(Refusal::Own);
         }
-        if !label.same(current) {
+        if label != self.label {
             return refusal(Refusal::Other);
         }
-        match phase {
-            Phase::Idle => refusal(Refusal::Closed),
-            Phase::Collecting => {
-                if clash {
-                    refusal(Refusal::Clash)
-                } else {
-                    doing(Effect::Merge { mask })
-                }
-            }
-            Phase::Pending => refusal(Refusal::Closed),
-            Phase::Voting => refusal(Refusal::Closed),
+        match self.phase {
+            Phase::Collecting if clash => refusal(Refusal::Clash),
+            Phase::Collecting => doing(Effect::Merge { mask }),
+            Phase::Idle | Phase::Pending | Phase::Voting => refusal(Refusal::Closed),
         }
     }
 }

@@ -9,26 +9,29 @@ use units::{Refusal, StateLabel};
 
 impl Brief {
     // A: U where the sender's state is older than ours.
+    #[tactic(auto, unfolding(crate::specs::States::plan_advert, units::specs::Pick::pick))]
     pub fn on_advert(self, sender: usize, theirs: StateLabel) -> Plan
         ensures { result ≡ plan_advert self sender theirs }
     {
-        let state = self.state;
         if sender == self.own {
             return refusal(Refusal::Own);
         }
-        if theirs.below(state) {
-            let sender = self.own;
-            return sending(Effect::Keep, Head::Update { sender, state });
+        if theirs < self.state {
+            let update = Head::Update {
+                sender: self.own,
+                state: self.state,
+            };
+            return sending(Effect::Keep, update);
         }
         doing(Effect::Keep)
     }
 
     // The phase after a newer state was taken while collecting: idle where it is at or above the round's label.
+    #[tactic(auto, unfolding(crate::specs::States::overtaken, units::specs::Pick::pick))]
     fn phase_after(self, theirs: StateLabel) -> Phase
         ensures { result ≡ overtaken self theirs }
     {
-        let label = self.label;
-        if theirs.before(label) {
+        if theirs.before(self.label) {
             Phase::Collecting
         } else {
             Phase::Idle
@@ -36,42 +39,39 @@ impl Brief {
     }
 
     // U where states may be taken: `same` tells whether its estimates are ours, `phase` is the phase after it is taken.
+    #[tactic(auto, unfolding(crate::specs::States::adopted, units::specs::Pick::pick))]
     fn adopt(self, theirs: StateLabel, same: bool, phase: Phase) -> Plan
         ensures { result ≡ adopted self theirs same phase }
     {
-        let state = self.state;
-        if state.below(theirs) {
+        if self.state < theirs {
             return doing(Effect::Adopt {
                 state: theirs,
                 phase,
             });
         }
-        if theirs.below(state) {
-            return doing(Effect::Keep);
-        }
-        if same {
+        if theirs < self.state || same {
             return doing(Effect::Keep);
         }
         refusal(Refusal::Clash)
     }
 
     // U: `same` tells whether its estimates are ours.
+    #[tactic(auto, unfolding(crate::specs::States::plan_update, crate::specs::States::in_update, units::specs::Pick::pick))]
     pub fn on_update(self, sender: usize, theirs: StateLabel, same: bool) -> Plan
         ensures { result ≡ plan_update self sender theirs same }
     {
-        let phase = self.phase;
         if sender == self.own {
             return refusal(Refusal::Own);
         }
-        match phase {
+        match self.phase {
             Phase::Idle => self.adopt(theirs, same, Phase::Idle),
             Phase::Collecting => self.adopt(theirs, same, self.phase_after(theirs)),
-            Phase::Pending => refusal(Refusal::Closed),
-            Phase::Voting => refusal(Refusal::Closed),
+            Phase::Pending | Phase::Voting => refusal(Refusal::Closed),
         }
     }
 
     // S of another is 9, its own 7.
+    #[tactic(auto, unfolding(crate::specs::States::plan_setpoints, units::specs::Pick::pick))]
     pub fn on_setpoints(self, sender: usize) -> Plan
         ensures { result ≡ plan_setpoints self sender }
     {

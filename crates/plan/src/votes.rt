@@ -13,87 +13,71 @@ impl Brief {
     pub fn own_digest(self) -> Digest
         ensures { result ≡ own_digest self }
     {
-        let state = self.state;
         Digest {
             mask: self.held,
-            state,
+            state: self.state,
         }
     }
 
     // F: voting; D goes out, and counts as our vote. What judging the vote then gives comes after.
+    #[tactic(auto, unfolding(crate::specs::Votes::plan_floor, crate::specs::Votes::in_floor, units::specs::Pick::pick))]
     pub fn on_floor(self, label: RoundLabel) -> Plan
         ensures { result ≡ plan_floor self label }
     {
-        let current = self.label;
-        let phase = self.phase;
-        let own = self.own;
-        if !label.same(current) {
+        if label != self.label {
             return refusal(Refusal::Other);
         }
-        match phase {
-            Phase::Idle => refusal(Refusal::Closed),
-            Phase::Collecting => refusal(Refusal::Closed),
+        match self.phase {
             Phase::Pending => {
                 let digest = self.own_digest();
                 sending(
                     Effect::Count {
-                        seat: own,
+                        seat: self.own,
                         digest,
                         phase: Phase::Voting,
                     },
                     Head::Vote {
-                        sender: own,
-                        label: current,
+                        sender: self.own,
+                        label: self.label,
                         digest,
                     },
                 )
             }
-            Phase::Voting => refusal(Refusal::Closed),
+            Phase::Idle | Phase::Collecting | Phase::Voting => refusal(Refusal::Closed),
         }
     }
 
     // D of the current label, not idle: `cast` is what its sender's seat holds.
+    #[tactic(auto, unfolding(crate::specs::Votes::in_seat, units::specs::Pick::pick))]
     fn seat(self, cast: Ballot, sender: usize, digest: Digest) -> Plan
         ensures { result ≡ in_seat sender digest self.phase cast }
     {
-        let phase = self.phase;
         match cast {
-            None => doing(Effect::Count {
+            Some(e) if !e.same(digest) => refusal(Refusal::Clash),
+            _ => doing(Effect::Count {
                 seat: sender,
                 digest,
-                phase,
+                phase: self.phase,
             }),
-            Some(e) => {
-                if e.same(digest) {
-                    doing(Effect::Count {
-                        seat: sender,
-                        digest,
-                        phase,
-                    })
-                } else {
-                    refusal(Refusal::Clash)
-                }
-            }
         }
     }
 
     // D: `cast` is what its sender's seat holds.
+    #[tactic(auto, unfolding(crate::specs::Votes::plan_digest, crate::specs::Votes::in_digest, units::specs::Pick::pick))]
     pub fn on_digest(self, cast: Ballot, sender: usize, label: RoundLabel, digest: Digest) -> Plan
         ensures { result ≡ plan_digest self cast sender label digest }
     {
-        let current = self.label;
-        let phase = self.phase;
         if sender == self.own {
             return refusal(Refusal::Own);
         }
-        if !label.same(current) {
+        if label != self.label {
             return refusal(Refusal::Other);
         }
-        match phase {
+        match self.phase {
             Phase::Idle => refusal(Refusal::Closed),
-            Phase::Collecting => self.seat(cast, sender, digest),
-            Phase::Pending => self.seat(cast, sender, digest),
-            Phase::Voting => self.seat(cast, sender, digest),
+            Phase::Collecting | Phase::Pending | Phase::Voting => {
+                self.seat(cast, sender, digest)
+            }
         }
     }
 }

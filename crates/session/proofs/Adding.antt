@@ -29,7 +29,7 @@ use Rattle.lines.specs.declared.read.First.{First}
 use Rattle.lines.specs.Reading.{first_line}
 use Rattle.lines.specs.Writing.{answer_of, buffer_of}
 use Rattle.controller.specs.declared.state.Controller.{Controller}
-use Rattle.controller.specs.declared.step.Answer.{Answer}
+use Rattle.controller.specs.Answers.{Answer}
 use Rattle.controller.specs.Effects.{added, applied}
 use Rattle.controller.specs.Step.{carried_out, reading_change}
 use Rattle.controller_laws.proofs.Adding.{adds_one, changes_none, not_one}

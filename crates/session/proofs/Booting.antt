@@ -1,5 +1,5 @@
 -- DEMAND 1'S PREMISE CAN BE MET: settings in range, written line by line and fed, lead a new session past them, and a B to a running controller. Assumes nothing.
-use Rattle.std.specs.Prelude.{Ok}
+use Rattle.std.specs.Prelude.{Ok, Err}
 use Prim.Native.Nat.{ℕ, ◌+◌}
 use native.Mathlib.Omega.{arith}
 use mathlib.Core.Path.{◌≡◌, refl, sym, ap, subst, ◌∙◌}
@@ -23,13 +23,12 @@ use Rattle.message.specs.declared.settings.Settings.{Settings}
 use Rattle.message.specs.Message.{message_fits, plain}
 use Rattle.message.specs.Settings.{settings_fit}
 use Rattle.lines.specs.declared.read.Line.{Line}
-use Rattle.lines.specs.declared.settle.Standing.{Standing}
-use Rattle.lines.specs.declared.settle.Standing.TheVariants.{More, Whole, Refused as NoSettings}
+use Rattle.lines.specs.Settling.{Standing, settle_line, missing, settle_on, settle_all}
+use Rattle.lines.specs.declared.settle.Wanted.TheVariants.{More, Whole}
 use Rattle.lines.specs.declared.settle.Settled.{Settled}
 use Rattle.lines.specs.declared.settle.Settling.{Settling}
 use Rattle.lines.specs.Reading.{ended_once, read_line}
 use Rattle.lines.specs.Settings.{setting_lines}
-use Rattle.lines.specs.Settling.{settle_line, missing, settle_on, settle_all}
 use Rattle.lines.specs.Values.{kind_is}
 use Rattle.lines.specs.Writing.{spell_line, buffer_of}
 use Rattle.lines.proofs.RoundTrip.{read_write, line_feed_lem}
@@ -121,32 +120,32 @@ record Boots (c : Core) (ls : List (List ℕ)) (end : Settling) : Type 0 where
 
 boots : (ls : List (List ℕ)) (c : Core) (end : Settling) → c.stage ≡ AtSettings → settle_all ls c.settling ≡ whole end → Boots c ls end
 unfolding settle_all
-boots [] c end s e = let z : NoSettings (missing c.settling) ≡ Whole = ap (λ (u : Settled). u.answer) e in absurd_by (cc)
+boots [] c end s e = let z : ◌≡◌ {A = Standing} (Err (missing c.settling)) (Ok Whole) = ap (λ (u : Settled). u.answer) e in absurd_by (cc)
 boots (l ∷ ls) c end s e = told (λ d p q. boots ls d end p q) (settle_line c.settling l).answer refl
   where
     told : ((d : Core) → d.stage ≡ AtSettings → settle_all ls d.settling ≡ whole end → Boots d ls end) → (x : Standing) → (settle_line c.settling l).answer ≡ x → Boots c (l ∷ ls) end
-    told go More p =
+    told go (Ok More) p =
         let b = go (settled_in c AtSettings (settle_line c.settling l).next) refl (ap (settle_on (settle_all ls) (settle_line c.settling l).next) (sym p) ∙ e) in
         record {
           lines = l ∷ b.lines;
           rest = b.rest;
           all = ap (λ (k : List (List ℕ)). l ∷ k) b.all;
           at = b.at;
-          quietly = then (settle_ends c.settling l More p refl) (turn_settles stepping c l (settle_line c.settling l) s refl ∙ settles_more c (settle_line c.settling l).next p) b.quietly;
+          quietly = then (settle_ends c.settling l (Ok More) p refl) (turn_settles stepping c l (settle_line c.settling l) s refl ∙ settles_more c (settle_line c.settling l).next p) b.quietly;
           waits = b.waits;
           settling = b.settling;
         }
-    told go Whole p =
+    told go (Ok Whole) p =
         record {
           lines = l ∷ [];
           rest = ls;
           all = refl;
           at = settled_in c Waiting (settle_line c.settling l).next;
-          quietly = then (settle_ends c.settling l Whole p refl) (turn_settles stepping c l (settle_line c.settling l) s refl ∙ settles_whole c (settle_line c.settling l).next p) here;
+          quietly = then (settle_ends c.settling l (Ok Whole) p refl) (turn_settles stepping c l (settle_line c.settling l) s refl ∙ settles_whole c (settle_line c.settling l).next p) here;
           waits = refl;
           settling = ap (λ (u : Settled). u.next) (ap (settle_on (settle_all ls) (settle_line c.settling l).next) (sym p) ∙ e);
         }
-    told go (NoSettings why) p = let z : NoSettings why ≡ Whole = ap (λ (u : Settled). u.answer) (ap (settle_on (settle_all ls) (settle_line c.settling l).next) (sym p) ∙ e) in absurd_by (cc)
+    told go (Err why) p = let z : ◌≡◌ {A = Standing} (Err why) (Ok Whole) = ap (λ (u : Settled). u.answer) (ap (settle_on (settle_all ls) (settle_line c.settling l).next) (sym p) ∙ e) in absurd_by (cc)
 
 -- ---- a line that is written
 written_ends : (t : List ℕ) → lacks line_feed t ≡ true → feed_at (t ++ (line_feed ∷ [])) + 1 ≡ length (t ++ (line_feed ∷ []))

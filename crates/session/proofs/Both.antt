@@ -1,5 +1,5 @@
 -- Two texts put into a lent buffer, the second first: both where there is room for both, else nothing. Assumes nothing.
-use Rattle.std.specs.Prelude.{Err, Ok}
+use Rattle.std.specs.Prelude.{Err, Ok, IsErrAnd}
 use Prim.Native.Nat.{ℕ, ◌+◌, ◌-◌, ◌≤◌, ◌<◌}
 use mathlib.Core.Path.{◌≡◌, refl, sym, ap, ◌∙◌}
 use mathlib.Core.List.{List, ◌++◌, append_assoc}
@@ -14,8 +14,7 @@ use Rattle.units.specs.Pick.{pick}
 use Rattle.fields.specs.Put.{put}
 use Rattle.fields.proofs.Cases.{by_lt, absurd_by}
 use Rattle.fields.proofs.Puts.{put_room, mid_rest, put_rest}
-use Rattle.lines.specs.Writing.{Written}
-use Rattle.lines.specs.Writing.{buffer_of}
+use Rattle.lines.specs.Writing.{Written, buffer_of}
 use Rattle.session.specs.Feeding.{done_length}
 use Rattle.session.proofs.Writes.{Puts}
 
@@ -99,3 +98,8 @@ module _ (t u out : List ℕ) (n : ℕ) (ne : n ≡ length t) where
               let c : 0 + length t ≤ length w = let a = length-append (take n out) (u ++ drop (length (t ++ u)) out) in let b = length-take-le n out h in omega arith in
               let z : 0 + length t ≡ length t = omega arith in
               put_room w 0 t c ∙ sets-eq t w 0 c ∙ ap (λ (k : ℕ). t ++ drop k w) z ∙ ap (λ (k : List ℕ). t ++ k) (drop_at (take n out) (u ++ drop (length (t ++ u)) out) (length t) (length-take-le n out h ∙ ne))
+
+-- a refusal that goes up by `?` is the one that came
+pub gone_up : (r : Written) (w : Refusal) → IsErrAnd r (λ e. e ≡ w) → r ≡ Err w
+gone_up (Ok n) w h = absurd h
+gone_up (Err e) w h = ap Err h

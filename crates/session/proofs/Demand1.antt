@@ -13,7 +13,7 @@ use Rattle.fields.specs.Lines.{feed_at, unfinished, line_at, lines_of}
 use Rattle.fields.proofs.Lines.{feed_none}
 use Rattle.lines.specs.Writing.{refusal_line, buffer_of}
 use Rattle.controller.specs.declared.state.Controller.{Controller}
-use Rattle.controller.specs.declared.step.Answer.{Answer}
+use Rattle.controller.specs.Answers.{Answer}
 use Rattle.controller_laws.specs.Endings.{Ended as EndedBy}
 use Rattle.controller_laws.specs.Endings.Ended.{by_time, by_lack, by_age}
 use Rattle.controller_laws.specs.Ways.{ends_round}

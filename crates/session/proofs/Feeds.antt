@@ -10,8 +10,7 @@ use Rattle.fields.proofs.Cases.{by_lt}
 use Rattle.fields.specs.Lines.{feed_at}
 use Rattle.fields.specs.Cut.{line_ending, line_in}
 use Rattle.lines.specs.declared.read.Line.{Line}
-use Rattle.lines.specs.Writing.{Written}
-use Rattle.lines.specs.Writing.{buffer_of}
+use Rattle.lines.specs.Writing.{Written, buffer_of}
 use Rattle.session.specs.declared.feed.Fed.{Fed}
 use Rattle.session.specs.declared.feed.Session.{Session}
 use Rattle.session.specs.declared.stage.Core.{Core}

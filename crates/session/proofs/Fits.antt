@@ -18,11 +18,10 @@ use Rattle.message.proofs.Views.{by_kind, start_seen}
 use Rattle.message.specs.Head.{head_fits}
 use Rattle.message.specs.Message.{message_fits}
 use Rattle.message.specs.Settings.{settings_fit}
-use Rattle.lines.specs.declared.settle.Standing.{Standing}
-use Rattle.lines.specs.declared.settle.Standing.TheVariants.{More, Whole, Refused as NoSettings}
+use Rattle.lines.specs.Settling.{Standing, settling_start, settle_line, settle_on, settle_all}
+use Rattle.lines.specs.declared.settle.Wanted.TheVariants.{More, Whole}
 use Rattle.lines.specs.declared.settle.Settling.{Settling}
 use Rattle.lines.specs.Reading.{read_line}
-use Rattle.lines.specs.Settling.{settling_start, settle_line, settle_on, settle_all}
 use Rattle.lines.proofs.RoundTrip.{read_fits}
 use Rattle.lines.proofs.WholeSettings.{settings_only}
 use Rattle.controller_laws.proofs.Fits.{start_fits as controller-start, told, step_fits}
@@ -47,11 +46,11 @@ module _ (st : Settling) (line : List ℕ) where
       → settle_all (r.lines ++ (line ∷ []) ++ rest) settling_start ≡ settle_on (settle_all rest) (settle_line st line).next (settle_line st line).answer
   reads_on r rest = rw append_assoc (r.reads (line ∷ rest) ∙ one_more rest)
 
-  more_reached : Reached st → (settle_line st line).answer ≡ More → Reached (settle_line st line).next
+  more_reached : Reached st → (settle_line st line).answer ≡ Ok More → Reached (settle_line st line).next
   more_reached r e = record { lines = r.lines ++ (line ∷ []); reads = λ rest. reads_on r rest ∙ rw e }
 
   -- whole settings are in range
-  whole_fits : Reached st → (settle_line st line).answer ≡ Whole → settings_fit (settle_line st line).next.settings ≡ true
+  whole_fits : Reached st → (settle_line st line).answer ≡ Ok Whole → settings_fit (settle_line st line).next.settings ≡ true
   whole_fits r e = (settings_only (r.lines ++ (line ∷ []) ++ []) (settle_line st line).next (reads_on r [] ∙ rw e)).fits
 
 settings_numbers : (s : Settings) → settings_fit s ≡ true → numbers_fit s.numbers ≡ true
@@ -60,9 +59,9 @@ settings_numbers s e = (numbers_exact s.numbers).1 ((settings_exact s).0 e).numb
 settles_fits : (c : Core) (line : List ℕ) (told : Standing) → (settle_line c.settling line).answer ≡ told → Reached c.settling
     → CoreFits (settles_to c (settle_line c.settling line).next told).next
 unfolding settles_to
-settles_fits c line More e r = more_reached c.settling line r e
-settles_fits c line Whole e r = settings_numbers (settle_line c.settling line).next.settings (whole_fits c.settling line r e)
-settles_fits c line (NoSettings why) e r = tt
+settles_fits c line (Ok More) e r = more_reached c.settling line r e
+settles_fits c line (Ok Whole) e r = settings_numbers (settle_line c.settling line).next.settings (whole_fits c.settling line r e)
+settles_fits c line (Err why) e r = tt
 
 -- BEFORE THE FIRST B
 kept : (c : Core) → c.stage ≡ Waiting → numbers_fit (numbers_in c) ≡ true → CoreFits c

@@ -1,5 +1,5 @@
 -- DOCUMENT 01'S 'The station program', sentence by sentence: what the definition of `turn` comes to. Assumes nothing.
-use Rattle.std.specs.Prelude.{Ok}
+use Rattle.std.specs.Prelude.{Ok, Err}
 use Prim.Native.Nat.{ℕ, ◌<◌}
 use mathlib.Core.Path.{◌≡◌, refl, ap, ◌∙◌}
 use mathlib.Core.List.{List, [], ◌∷◌, ◌++◌}
@@ -12,12 +12,11 @@ use Rattle.units.specs.Limits.{line_top}
 use Rattle.units.proofs.InRange.{group_fits_lem}
 use Rattle.message.specs.declared.head.Head.TheVariants.{Start}
 use Rattle.message.specs.View.{as_start}
-use Rattle.lines.specs.declared.settle.Standing.TheVariants.{Refused as NoSettings}
 use Rattle.lines.specs.Reading.{read_line}
 use Rattle.lines.specs.Settling.{settle_line}
 use Rattle.lines.proofs.Refusing.{read_long}
 use Rattle.lines.proofs.RoundTrip.{read_fits}
-use Rattle.controller.specs.declared.step.Answer.{Answer}
+use Rattle.controller.specs.Answers.{Answer}
 use Rattle.controller.specs.Effects.{applied}
 use Rattle.controller.specs.Start.{start_of}
 use Rattle.controller.specs.Step.{planned}
@@ -33,7 +32,7 @@ use Rattle.session.proofs.Same.{step_same}
 use Rattle.session.proofs.Turns.{turn_ended, waits_other}
 
 -- "Refused settings give X 15 and the end"
-pub settings_end : (c : Core) (line : List ℕ) (why : Refusal) → c.stage ≡ AtSettings → (settle_line c.settling line).answer ≡ NoSettings why
+pub settings_end : (c : Core) (line : List ℕ) (why : Refusal) → c.stage ≡ AtSettings → (settle_line c.settling line).answer ≡ Err why
     → turn c line ≡ refusing (settled_in c Ended (settle_line c.settling line).next) why
 unfolding turn_by settles_to
 settings_end c line why s e = rw (s, e)

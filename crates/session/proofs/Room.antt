@@ -22,11 +22,10 @@ use Rattle.fields.proofs.Cases.{by_test, by_lt}
 use Rattle.fields.proofs.Texts.{until_short}
 use Rattle.fields.specs.Cut.{line_in}
 use Rattle.fields.specs.Lines.{feed_at}
-use Rattle.lines.specs.declared.settle.Standing.{Standing}
-use Rattle.lines.specs.declared.settle.Standing.TheVariants.{More, Whole, Refused as NoSettings}
+use Rattle.lines.specs.Settling.{Standing, settle_line}
+use Rattle.lines.specs.declared.settle.Wanted.TheVariants.{More, Whole}
 use Rattle.lines.specs.declared.settle.Settling.{Settling}
 use Rattle.lines.specs.Reading.{read_line}
-use Rattle.lines.specs.Settling.{settle_line}
 use Rattle.lines.specs.Writing.{refusal_line, buffer_of}
 use Rattle.lines.proofs.RoundTrip.{write_room, refusal_room}
 use Rattle.controller.specs.declared.state.Controller.{Controller}
@@ -67,9 +66,9 @@ put_short s c second v (Some head) =
 
 settles_short : (c : Core) (next : Settling) (told : Standing) → length (settles_to c next told).text ≤ 2 * line_top
 unfolding settles_to
-settles_short c next More = omega arith
-settles_short c next Whole = omega arith
-settles_short c next (NoSettings why) = let a = refusal_room why in omega arith
+settles_short c next (Ok More) = omega arith
+settles_short c next (Ok Whole) = omega arith
+settles_short c next (Err why) = let a = refusal_room why in omega arith
 
 closed_short : length (refusal_line Closed) ≤ 2 * line_top
 closed_short = let a = refusal_room Closed in omega arith

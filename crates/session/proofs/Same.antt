@@ -18,7 +18,7 @@ use Rattle.lines.specs.Reading.{read_line}
 use Rattle.lines.specs.Writing.{spell_line}
 use Rattle.lines.proofs.RoundTrip.{read_fits}
 use Rattle.controller.specs.declared.state.Controller.{Controller}
-use Rattle.controller.specs.declared.step.Answer.{Answer}
+use Rattle.controller.specs.Answers.{Answer}
 use Rattle.controller.specs.State.{controller_fits}
 use Rattle.controller.specs.Sent.{sent_message}
 use Rattle.controller.specs.Step.{inputs_fit, stepped}

@@ -17,12 +17,11 @@ use Rattle.message.specs.View.{as_start}
 use Rattle.message.specs.contracts.head.Head.{the_type}
 use Rattle.message.proofs.Views.{start_seen, unlisted, unlike}
 use Rattle.lines.specs.declared.read.Line.{Line}
-use Rattle.lines.specs.declared.settle.Standing.{Standing}
-use Rattle.lines.specs.declared.settle.Standing.TheVariants.{More, Whole, Refused as NoSettings}
+use Rattle.lines.specs.Settling.{Standing, settle_line}
+use Rattle.lines.specs.declared.settle.Wanted.TheVariants.{More, Whole}
 use Rattle.lines.specs.declared.settle.Settled.{Settled}
 use Rattle.lines.specs.declared.settle.Settling.{Settling}
 use Rattle.lines.specs.Reading.{read_line}
-use Rattle.lines.specs.Settling.{settle_line}
 use Rattle.session.specs.declared.stage.Core.{Core}
 use Rattle.session.specs.declared.stage.Stage.{Stage}
 use Rattle.session.specs.declared.stage.Stage.TheVariants.{Settling as AtSettings, Waiting, Running, Ended}
@@ -30,15 +29,15 @@ use Rattle.session.specs.Feeding.{Heard}
 use Rattle.session.specs.Turn.{Turn, quiet, refusing, settled_in, settles_to, hears, waits_for, group_in, turn_by}
 
 module _ (c : Core) (next : Settling) {a : Standing} where
-  pub settles_more : a ≡ More → settles_to c next a ≡ quiet (settled_in c AtSettings next)
+  pub settles_more : a ≡ Ok More → settles_to c next a ≡ quiet (settled_in c AtSettings next)
   unfolding settles_to
   settles_more e = rw e
 
-  pub settles_whole : a ≡ Whole → settles_to c next a ≡ quiet (settled_in c Waiting next)
+  pub settles_whole : a ≡ Ok Whole → settles_to c next a ≡ quiet (settled_in c Waiting next)
   unfolding settles_to
   settles_whole e = rw e
 
-  pub settles_refused : (why : Refusal) → a ≡ NoSettings why → settles_to c next a ≡ refusing (settled_in c Ended next) why
+  pub settles_refused : (why : Refusal) → a ≡ Err why → settles_to c next a ≡ refusing (settled_in c Ended next) why
   unfolding settles_to
   settles_refused why e = rw e
 

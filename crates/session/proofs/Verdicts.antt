@@ -8,9 +8,8 @@ use mathlib.Core.List.{List}
 use lib.Dec.{leb}
 use borrow.Author.Tests.{leb-true, lt-leb}
 use Rattle.units.specs.declared.refusal.Refusal.{Refusal}
-use Rattle.units.specs.Refusal.{Verdict}
+use Rattle.units.specs.Refusal.{Verdict, number_of}
 use Rattle.units.specs.declared.settings.Group.{Group}
-use Rattle.units.specs.Refusal.{number_of}
 use Rattle.units.specs.Within.{within}
 use Rattle.units.proofs.Every.{and_right}
 use Rattle.message.specs.declared.head.Head.{Head}

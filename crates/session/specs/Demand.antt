@@ -9,13 +9,12 @@ use Rattle.message.specs.declared.value.Message.{Message}
 use Rattle.message.specs.View.{on_start}
 use Rattle.fields.specs.Lines.{feed_at, lines_of}
 use Rattle.plan.specs.declared.brief.Phase.TheVariants.{Idle}
-use Rattle.lines.specs.declared.settle.Standing.{Standing}
-use Rattle.lines.specs.declared.settle.Standing.TheVariants.{More, Whole, Refused as NoSettings}
+use Rattle.lines.specs.Settling.{Standing, settle_line}
+use Rattle.lines.specs.declared.settle.Wanted.TheVariants.{More, Whole}
 use Rattle.lines.specs.Reading.{read_line}
-use Rattle.lines.specs.Settling.{settle_line}
 use Rattle.lines.specs.Writing.{refusal_line, buffer_of}
 use Rattle.controller.specs.declared.state.Controller.{Controller}
-use Rattle.controller.specs.declared.step.Answer.{Answer}
+use Rattle.controller.specs.Answers.{Answer}
 use Rattle.controller.specs.Step.{stepped}
 use Rattle.controller_laws.specs.Endings.{Ended as EndedBy}
 use Rattle.controller_laws.specs.Ways.{ends_round}
@@ -31,9 +30,9 @@ use Rattle.session.specs.Turn.{numbers_in, group_in, running_with, answer_text, 
 
 -- THE VERDICT ON A LINE: the reader's 1 to 6 first; then 9 before the first B; then the step's
 abbrev pub told_verdict : Standing → Verdict
-told_verdict More = Ok tt
-told_verdict Whole = Ok tt
-told_verdict (NoSettings why) = Err why
+told_verdict (Ok More) = Ok tt
+told_verdict (Ok Whole) = Ok tt
+told_verdict (Err why) = Err why
 
 unfoldable pub wait_verdict : Head → Verdict
 wait_verdict head = on_start (λ own floor. (Ok tt)) (Err Closed) head

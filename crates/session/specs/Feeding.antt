@@ -2,11 +2,10 @@
 use Rattle.std.specs.Prelude.{ℕ, ◌+◌, ◌≡◌, List, [], ◌++◌, Bool, true, false, eqb, ltb, length, Err, None, Ok, Some}
 use Rattle.units.specs.declared.refusal.Refusal.{Refusal}
 use Rattle.units.specs.declared.refusal.Refusal.TheVariants.{Long, Unended, Range, Settings as NoSettings, Room}
-use Rattle.units.specs.Refusal.{Verdict}
+use Rattle.units.specs.Refusal.{Verdict, number_of}
 use Rattle.units.specs.declared.settings.Numbers.{Numbers}
 use Rattle.units.specs.Limits.{line_top}
 use Rattle.units.specs.Pick.{pick}
-use Rattle.units.specs.Refusal.{number_of}
 use Rattle.message.specs.declared.head.Head.{Head}
 use Rattle.message.specs.declared.value.Message.{Message}
 use Rattle.message.specs.Message.{message_fits}
@@ -16,10 +15,9 @@ use Rattle.fields.specs.Lines.{feed_at}
 use Rattle.lines.specs.declared.read.Line.{Line}
 use Rattle.lines.specs.declared.settle.Settling.{Settling}
 use Rattle.lines.specs.Reading.{read_line}
-use Rattle.lines.specs.Writing.{Written}
-use Rattle.lines.specs.Writing.{spell_line, answer_of, buffer_of, written_number}
+use Rattle.lines.specs.Writing.{Written, spell_line, answer_of, buffer_of, written_number}
 use Rattle.controller.specs.declared.state.Controller.{Controller}
-use Rattle.controller.specs.declared.step.Answer.{Answer}
+use Rattle.controller.specs.Answers.{Answer}
 use Rattle.controller.specs.Sent.{sent_message}
 use Rattle.controller.specs.Step.{planned, carried_out}
 use Rattle.session.specs.declared.feed.Fed.{Fed}

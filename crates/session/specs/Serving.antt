@@ -14,7 +14,7 @@ use Rattle.plan.specs.Plan.{does, refuse}
 use Rattle.lines.specs.declared.read.Line.{Line}
 use Rattle.lines.specs.Reading.{first_line}
 use Rattle.controller.specs.declared.state.Controller.{Controller}
-use Rattle.controller.specs.declared.step.Answer.{Answer}
+use Rattle.controller.specs.Answers.{Answer}
 use Rattle.controller.specs.Step.{planned, carried_out}
 use Rattle.session.specs.declared.feed.Fed.{Fed}
 use Rattle.session.specs.declared.feed.Session.{Session}

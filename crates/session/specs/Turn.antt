@@ -9,14 +9,13 @@ use Rattle.message.specs.declared.head.Head.{Head}
 use Rattle.message.specs.declared.value.Message.{Message}
 use Rattle.message.specs.View.{on_start}
 use Rattle.plan.specs.Plan.{Sent}
-use Rattle.lines.specs.declared.settle.Standing.{Standing}
-use Rattle.lines.specs.declared.settle.Standing.TheVariants.{More, Whole, Refused as NoSettings}
+use Rattle.lines.specs.Settling.{Standing, settling_start, settle_line}
+use Rattle.lines.specs.declared.settle.Wanted.TheVariants.{More, Whole}
 use Rattle.lines.specs.declared.settle.Settling.{Settling}
 use Rattle.lines.specs.Reading.{read_line}
-use Rattle.lines.specs.Settling.{settling_start, settle_line}
 use Rattle.lines.specs.Writing.{spell_line, refusal_line}
 use Rattle.controller.specs.declared.state.Controller.{Controller}
-use Rattle.controller.specs.declared.step.Answer.{Answer}
+use Rattle.controller.specs.Answers.{Answer}
 use Rattle.controller.specs.Sent.{sent_message}
 use Rattle.controller.specs.Start.{start_of}
 use Rattle.controller.specs.Step.{stepped}
@@ -52,9 +51,9 @@ refusing c why = record { next = c; text = refusal_line why }
 
 -- WHILE THE SETTINGS COME: "Refused settings give X 15 and the end"
 unfoldable pub settles_to : Core → Settling → Standing → Turn
-settles_to c next More = quiet (settled_in c AtSettings next)
-settles_to c next Whole = quiet (settled_in c Waiting next)
-settles_to c next (NoSettings why) = refusing (settled_in c Ended next) why
+settles_to c next (Ok More) = quiet (settled_in c AtSettings next)
+settles_to c next (Ok Whole) = quiet (settled_in c Waiting next)
+settles_to c next (Err why) = refusing (settled_in c Ended next) why
 
 -- BEFORE THE FIRST B "another line that passes 1 to 6 is 9"
 unfoldable pub waits_for : Core → Head → Turn

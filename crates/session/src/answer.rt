@@ -7,16 +7,17 @@ ghost use Rattle.session.specs.Turn.{verdict_text};
 
 use controller::Controller;
 use fields::put_part;
-use lines::write::{Written, write, write_plain, write_refusal, written_number};
+use lines::write::{Written, write, write_plain, write_refusal};
 use message::Head;
 use plan::Sent;
-use units::{Numbers, Refusal, Verdict};
+use units::{Numbers, Refusal, Verdict, answer_number};
 
 // What the writer refuses by 6 counts as nothing written.
 fn or_nothing(written: Written) -> Written
     ensures { result ≡ or_nothing written }
 {
-    if written_number(written) == Refusal::Range.number() {
+    // By its number: the arms of a pattern in a pattern have no facts that a proof may cite.
+    if answer_number(written) == Refusal::Range.number() {
         return Ok(0);
     }
     written
@@ -29,8 +30,7 @@ fn put_sent(c: Controller, numbers: Numbers, head: Head, out: &mut [u8]) -> Writ
     if head.is_plain() {
         return or_nothing(write_plain(head, numbers.group, out));
     }
-    let message = c.message(numbers, head);
-    or_nothing(write(message, numbers.group, out))
+    or_nothing(write(c.message(numbers, head), numbers.group, out))
 }
 
 // X where something was refused.
@@ -43,7 +43,10 @@ pub(crate) fn put_verdict(verdict: Verdict, out: &mut [u8]) -> Written
     }
 }
 
+// (second, verdict, out) go on as a step answered them: a struct of the first two would be made here to be taken apart at once.
+
 // What comes after the first line.
+#[tactic(auto, unfolding(crate::specs::Feeding::rest_text))]
 fn put_rest(
     c: Controller,
     numbers: Numbers,
@@ -63,24 +66,18 @@ fn put_rest(
 pub(crate) fn length_of(written: Written) -> usize
     ensures { result ≡ done_length written }
 {
-    match written {
-        Ok(len) => len,
-        Err(_) => 0,
-    }
+    written.unwrap_or(0)
 }
 
 // Puts the first n bytes of a line at the start of a buffer that has room for them.
 fn put_first(out: &mut [u8], line: &[u8], n: usize)
     ensures { out.new ≡ put out.old 0 (take n line.now) }
 {
-    if n < line.len() {
-        put_part(out, 0, &line[..n]);
-    } else {
-        put_part(out, 0, line);
-    }
+    put_part(out, 0, &line[..n.min(line.len())]);
 }
 
 // Two parts, or nothing where there is no room for both: the second is written first, past the place of the first.
+#[inline(never)]
 fn put_both(
     c: Controller,
     numbers: Numbers,
@@ -96,16 +93,13 @@ fn put_both(
     if out.len() < len {
         return Err(Refusal::Room);
     }
-    match put_rest(c, numbers, second, verdict, &mut out[len..]) {
-        Err(why) => Err(why),
-        Ok(more) => {
-            put_first(out, &line, len);
-            Ok(len + more)
-        }
-    }
+    let more = put_rest(c, numbers, second, verdict, &mut out[len..])?;
+    put_first(out, &line, len);
+    Ok(len + more)
 }
 
 // Writes what a step answers.
+#[tactic(auto, unfolding(crate::specs::Feeding::put_text, crate::specs::Feeding::rest_text, crate::specs::Turn::verdict_text))]
 pub(crate) fn put_answer(
     c: Controller,
     numbers: Numbers,
@@ -116,14 +110,11 @@ pub(crate) fn put_answer(
 ) -> Written
     ensures { (result ≡ answer_of (put_text numbers c second verdict first) out.old) × (out.new ≡ buffer_of (put_text numbers c second verdict first) out.old) }
 {
-    match first {
-        None => put_verdict(verdict, out),
-        Some(head) => match second {
-            None => match verdict {
-                Ok(()) => put_sent(c, numbers, head, out),
-                Err(_) => put_both(c, numbers, head, second, verdict, out),
-            },
-            Some(_) => put_both(c, numbers, head, second, verdict, out),
-        },
+    let Some(head) = first else {
+        return put_verdict(verdict, out);
+    };
+    match (second, verdict) {
+        (None, Ok(())) => put_sent(c, numbers, head, out),
+        _ => put_both(c, numbers, head, second, verdict, out),
     }
 }

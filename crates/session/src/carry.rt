@@ -16,20 +16,14 @@ use units::Group;
 fn read_part(bytes: &[u8], n: usize, group: Group) -> Line
     ensures { result ≡ read_line group (take n bytes.now) }
 {
-    if n < bytes.len() {
-        return read(&bytes[..n], group);
-    }
-    read(bytes, group)
+    read(&bytes[..n.min(bytes.len())], group)
 }
 
 // The first n bytes as a line of the settings.
 fn take_first(settling: Settling, bytes: &[u8], n: usize) -> Settled
     ensures { result ≡ settle_line settling (take n bytes.now) }
 {
-    if n < bytes.len() {
-        return settling.take(&bytes[..n]);
-    }
-    settling.take(bytes)
+    settling.take(&bytes[..n.min(bytes.len())])
 }
 
 // What the line says that ends with the first n bytes of an input.
@@ -40,9 +34,7 @@ pub(crate) fn read_on(carry: Carry, input: &[u8], n: usize, group: Group) -> Lin
         return read_part(input, n, group);
     }
     let whole = carry.hold(input, n);
-    let len = whole.len();
-    let bytes = whole.bytes();
-    read_part(&bytes, len, group)
+    read_part(&whole.bytes(), whole.len(), group)
 }
 
 // The same of a line of the settings.
@@ -53,22 +45,20 @@ pub(crate) fn take_on(carry: Carry, settling: Settling, input: &[u8], n: usize) 
         return take_first(settling, input, n);
     }
     let whole = carry.hold(input, n);
-    let len = whole.len();
-    let bytes = whole.bytes();
-    take_first(settling, &bytes, len)
+    take_first(settling, &whole.bytes(), whole.len())
 }
 
+// A line of no account stands for one that is not read: `Core::first` promises a `First` at every stage, and `Heard` says which line counts.
 // The place of the first line feed, where the line is not read here.
 pub(crate) fn unread(input: &[u8]) -> First
     ensures { result.feed ≡ feed_at input.now }
 {
-    let seen = scan(input);
     First {
         line: Line {
             verdict: Ok(()),
             message: Message::plain(Head::Refused { number: 0 }),
         },
-        feed: seen.feed,
+        feed: scan(input).feed,
     }
 }
 

@@ -7,6 +7,7 @@ use crate::answer::put_verdict;
 use crate::stage::{Core, Stage};
 use crate::turn::Turned;
 use fields::Carry;
+use lines::read::First;
 use lines::settle::Settling;
 use units::limits::LINE;
 use units::{Refusal, Verdict};
@@ -18,6 +19,7 @@ pub struct Session {
 }
 
 // The session after a call, how much of the input it took, how much it wrote, and 16 where there was too little room.
+// All of it stands with 16 too, which says that nothing is taken: `short` and `Untouched` name each.
 #[derive(Clone, Copy)]
 pub struct Fed {
     pub next: Session,
@@ -27,25 +29,26 @@ pub struct Fed {
 }
 
 // Why a piece of n bytes at the end of the input is refused.
+#[tactic(auto, unfolding(crate::specs::Feeding::unended, units::specs::Pick::pick))]
 fn unended(n: usize) -> Refusal
     ensures { result ≡ Rattle.session.specs.Feeding.unended n }
 {
     if LINE < n {
-        return Refusal::Long;
+        Refusal::Long
+    } else {
+        Refusal::Unended
     }
-    Refusal::Unended
 }
 
+#[tactic(auto, unfolding(crate::specs::Feeding::unended_line, units::specs::Pick::pick))]
 fn unended_line(n: usize) -> Verdict
     ensures { result ≡ unended_line n }
 {
-    if n == 0 {
-        return Ok(());
-    }
-    Err(unended(n))
+    if n == 0 { Ok(()) } else { Err(unended(n)) }
 }
 
 // What the end of the input says, with n bytes held.
+#[tactic(auto, unfolding(crate::specs::Feeding::last_of))]
 fn last_of(settling: Settling, n: usize, stage: Stage) -> Verdict
     ensures { result ≡ last_of settling n stage }
 {
@@ -54,53 +57,45 @@ fn last_of(settling: Settling, n: usize, stage: Stage) -> Verdict
             line: settling.line(),
             reason: unended(n).number(),
         }),
-        Stage::Waiting => unended_line(n),
-        Stage::Running => unended_line(n),
+        Stage::Waiting | Stage::Running => unended_line(n),
         Stage::Ended => Ok(()),
     }
 }
 
 impl Session {
     // Nothing is read.
+    #[tactic(auto, unfolding(crate::specs::Feeding::session_start))]
     pub fn start() -> Session
         ensures { result ≡ session_start }
     {
-        let core = Core::start();
-        let carry = Carry::start();
-        Session { core, carry }
+        Session {
+            core: Core::start(),
+            carry: Carry::start(),
+        }
     }
 
     // Whether nothing more is answered: the settings were refused.
     pub fn ended(self) -> bool
         ensures { result ≡ is_ended self.core.stage }
     {
-        let core = self.core;
-        let stage = core.stage;
-        match stage {
-            Stage::Settling => false,
-            Stage::Waiting => false,
-            Stage::Running => false,
-            Stage::Ended => true,
-        }
+        matches!(self.core.stage, Stage::Ended)
     }
 
     // The line is closed, or nothing is changed where there was too little room.
+    #[tactic(auto, unfolding(crate::specs::Feeding::line_done_by))]
     fn line_done(self, turned: Turned, end: usize) -> Fed
         ensures { result ≡ line_done_by self end turned.next turned.written }
     {
-        let core = turned.next;
-        let written = turned.written;
-        let old = self.carry;
-        match written {
-            Ok(len) => {
-                let carry = old.emptied();
-                Fed {
-                    next: Session { core, carry },
-                    took: end,
-                    wrote: len,
-                    verdict: Ok(()),
-                }
-            }
+        match turned.written {
+            Ok(len) => Fed {
+                next: Session {
+                    core: turned.next,
+                    carry: self.carry.emptied(),
+                },
+                took: end,
+                wrote: len,
+                verdict: Ok(()),
+            },
             Err(why) => Fed {
                 next: self,
                 took: 0,
@@ -114,11 +109,11 @@ impl Session {
     fn hold(self, input: &[u8]) -> Fed
         ensures { result ≡ piece_held self input.now }
     {
-        let core = self.core;
-        let old = self.carry;
-        let carry = old.hold(input, input.len());
         Fed {
-            next: Session { core, carry },
+            next: Session {
+                core: self.core,
+                carry: self.carry.hold(input, input.len()),
+            },
             took: input.len(),
             wrote: 0,
             verdict: Ok(()),
@@ -129,15 +124,11 @@ impl Session {
     pub fn feed(self, input: &[u8], out: &mut [u8]) -> Fed
         ensures { (result ≡ fed self input.now (length out.old)) × (out.new ≡ buffer_of (fed_text self input.now) out.old) }
     {
-        let core = self.core;
-        let carry = self.carry;
-        let first = core.first(carry, input);
-        let feed = first.feed;
-        let line = first.line;
+        let First { line, feed } = self.core.first(self.carry, input);
         if feed == input.len() {
             return self.hold(input);
         }
-        let turned = core.turn(line, carry, input, feed + 1, out);
+        let turned = self.core.turn(line, self.carry, input, feed + 1, out);
         self.line_done(turned, feed + 1)
     }
 
@@ -145,17 +136,12 @@ impl Session {
     pub fn finish(self, out: &mut [u8]) -> Fed
         ensures { (result ≡ finished self (length out.old)) × (out.new ≡ buffer_of (last_turn self).text out.old) }
     {
-        let core = self.core;
-        let carry = self.carry;
-        let settling = core.settling;
-        let stage = core.stage;
-        let written = put_verdict(last_of(settling, carry.len(), stage), out);
-        self.line_done(
-            Turned {
-                next: core.settled(Stage::Ended, settling),
-                written,
-            },
-            0,
-        )
+        let settling = self.core.settling;
+        let last = last_of(settling, self.carry.len(), self.core.stage);
+        let turned = Turned {
+            next: self.core.settled(Stage::Ended, settling),
+            written: put_verdict(last, out),
+        };
+        self.line_done(turned, 0)
     }
 }

@@ -8,13 +8,15 @@ use crate::run::ROOM;
 use units::{Refusal, Verdict};
 
 // 16 where there is too little room.
+#[tactic(auto, unfolding(crate::specs::Handling::room_verdict, units::specs::Pick::pick))]
 fn room_verdict(room: usize) -> Verdict
     ensures { result ≡ room_verdict room }
 {
     if room < ROOM {
-        return Err(Refusal::Room);
+        Err(Refusal::Room)
+    } else {
+        Ok(())
     }
-    Ok(())
 }
 
 impl Session {

@@ -6,7 +6,8 @@ ghost use Rattle.session.specs.Serving.{AddedBy, plan_line, ran, run_of};
 
 use crate::answer::{length_of, put_answer};
 use controller::Controller;
-use lines::read::read_first;
+use lines::Line;
+use lines::read::{First, read_first};
 use message::{Head, Message};
 use plan::planned::refusal;
 use plan::{Change, Plan};
@@ -51,10 +52,7 @@ fn plan_line(c: Controller, numbers: Numbers, message: Message, verdict: Verdict
 fn put_plan(c: Controller, numbers: Numbers, plan: Plan, out: &mut [u8]) -> usize
     ensures { (result ≡ done_length (answer_of (put_text numbers c plan.second plan.verdict plan.first) out.old)) × (out.new ≡ buffer_of (put_text numbers c plan.second plan.verdict plan.first) out.old) }
 {
-    let first = plan.first;
-    let second = plan.second;
-    let verdict = plan.verdict;
-    length_of(put_answer(c, numbers, first, second, verdict, out))
+    length_of(put_answer(c, numbers, plan.first, plan.second, plan.verdict, out))
 }
 
 // Serves a running controller's lines as long as the next one is whole and there is room for two lines.
@@ -62,32 +60,24 @@ fn put_plan(c: Controller, numbers: Numbers, plan: Plan, out: &mut [u8]) -> usiz
 pub(crate) fn run_lines(c: Controller, numbers: Numbers, input: &[u8], out: &mut [u8]) -> Ran
     ensures { (result ≡ ran (run_of numbers c input.now (length out.old))) × (out.new ≡ buffer_of (run_of numbers c input.now (length out.old)).text out.old) }
 {
-    let group = numbers.group;
     let mut next = c;
     let mut at: usize = 0;
     let mut filled: usize = 0;
     // A while: lines have any length, and the last may not be whole.
     while ROOM <= out.len() - filled {
-        let first = read_first(&input[at..], group);
-        let feed = first.feed;
-        let line = first.line;
-        let verdict = line.verdict;
-        let message = line.message;
-        let head = message.head;
+        let First { line, feed } = read_first(&input[at..], numbers.group);
+        let Line { verdict, message } = line;
         if feed == input.len() - at {
             break;
         }
-        let change = added_by(next, head, verdict);
+        let change = added_by(next, message.head, verdict);
         if let Change::Reading { run, raw } = change {
-            let after = next.add(run, raw);
-            next = after;
+            next = next.add(run, raw);
         } else {
             let plan = plan_line(next, numbers, message, verdict);
-            let effect = plan.effect;
-            let size = effect.change();
-            if let Change::Nothing = size {} else {
-                let after = next.apply(numbers, message, effect);
-                next = after;
+            match plan.effect.change() {
+                Change::Nothing => {}
+                _ => next = next.apply(numbers, message, plan.effect),
             }
             filled += put_plan(next, numbers, plan, &mut out[filled..]);
         }

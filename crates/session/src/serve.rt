@@ -10,12 +10,7 @@ use crate::stage::Stage;
 fn is_running(stage: Stage) -> bool
     ensures { result ≡ is_running stage }
 {
-    match stage {
-        Stage::Settling => false,
-        Stage::Waiting => false,
-        Stage::Running => true,
-        Stage::Ended => false,
-    }
+    matches!(stage, Stage::Running)
 }
 
 impl Session {
@@ -23,10 +18,7 @@ impl Session {
     fn may_run(self) -> bool
         ensures { result ≡ may_run self }
     {
-        let core = self.core;
-        let carry = self.carry;
-        let stage = core.stage;
-        is_running(stage) & carry.is_empty()
+        is_running(self.core.stage) && self.carry.is_empty()
     }
 
     // Takes the next piece of the input as so many calls of `feed` would: up to the end of one line, and then each whole line while
@@ -35,27 +27,24 @@ impl Session {
         ensures { (result ≡ served self input.now (length out.old)) × (out.new ≡ buffer_of (served_text self input.now (length out.old)) out.old) }
     {
         let fed = self.feed(input, out);
-        let next = fed.next;
-        if !next.may_run() {
+        if !fed.next.may_run() {
             return fed;
         }
-        let took = fed.took;
-        let wrote = fed.wrote;
-        let verdict = fed.verdict;
-        let core = next.core;
-        let carry = next.carry;
-        let controller = core.controller;
-        let numbers = core.numbers();
-        let ran = run_lines(controller, numbers, &input[took..], &mut out[wrote..]);
-        let after = ran.next;
+        let Session { core, carry } = fed.next;
+        let ran = run_lines(
+            core.controller,
+            core.numbers(),
+            &input[fed.took..],
+            &mut out[fed.wrote..],
+        );
         Fed {
             next: Session {
-                core: core.running(after),
+                core: core.running(ran.next),
                 carry,
             },
-            took: took + ran.took,
-            wrote: wrote + ran.wrote,
-            verdict,
+            took: fed.took + ran.took,
+            wrote: fed.wrote + ran.wrote,
+            ..fed
         }
     }
 }

@@ -15,6 +15,7 @@ pub enum Stage {
 }
 
 // The settings read so far, and the controller, which counts once it runs.
+// A stage beside them, and no stage that holds a controller: `each_step`, `step_refused` and `runs` say `stage ≡ Running` of any core, and `.controller` of it.
 #[derive(Clone, Copy)]
 pub struct Core {
     pub(crate) stage: Stage,
@@ -24,16 +25,15 @@ pub struct Core {
 
 impl Core {
     // Nothing is read.
+    #[tactic(auto, unfolding(crate::specs::Turn::core_start))]
     pub fn start() -> Core
         ensures { result ≡ core_start }
     {
         let settling = Settling::start();
-        let numbers = settling.numbers();
-        let controller = Controller::begin(numbers, 0, RoundLabel(0));
         Core {
             stage: Stage::Settling,
             settling,
-            controller,
+            controller: Controller::begin(settling.numbers(), 0, RoundLabel(0)),
         }
     }
 
@@ -41,29 +41,26 @@ impl Core {
     pub(crate) fn numbers(self) -> Numbers
         ensures { result ≡ numbers_in self }
     {
-        let settling = self.settling;
-        settling.numbers()
+        self.settling.numbers()
     }
 
     pub(crate) fn settled(self, stage: Stage, settling: Settling) -> Core
         ensures { result ≡ settled_in self stage settling }
     {
-        let controller = self.controller;
         Core {
             stage,
             settling,
-            controller,
+            ..self
         }
     }
 
     pub(crate) fn running(self, controller: Controller) -> Core
         ensures { result ≡ running_with self controller }
     {
-        let settling = self.settling;
         Core {
             stage: Stage::Running,
-            settling,
             controller,
+            ..self
         }
     }
 }

@@ -10,15 +10,16 @@ ghost use Rattle.controller.specs.Start.{start_of};
 use crate::answer::put_answer;
 use crate::carry::{first, take_on, unread};
 use crate::stage::{Core, Stage};
-use controller::Controller;
+use controller::{Controller, Said};
 use fields::Carry;
 use lines::Line;
 use lines::read::First;
-use lines::settle::{Settled, Standing};
+use lines::settle::{Settled, Wanted};
 use lines::write::{Written, write_refusal};
 use message::{Head, Message};
 use units::{Refusal, RoundLabel};
 
+// What is next stands beside what is written, which may be that there is no room: `line_done_by` goes by both.
 #[derive(Clone, Copy)]
 pub struct Turned {
     pub(crate) next: Core,
@@ -39,10 +40,9 @@ impl Core {
     fn refuse(self, why: Refusal, out: &mut [u8]) -> Turned
         ensures { Wrote (refusing self why) out.old out.new result }
     {
-        let written = write_refusal(why, out);
         Turned {
             next: self,
-            written,
+            written: write_refusal(why, out),
         }
     }
 
@@ -50,20 +50,21 @@ impl Core {
     fn settle(self, settled: Settled, out: &mut [u8]) -> Turned
         ensures { Wrote (settles_to self settled.next settled.answer) out.old out.new result }
     {
-        let next = settled.next;
-        let answer = settled.answer;
+        let Settled { next, answer } = settled;
         match answer {
-            Standing::More => self.settled(Stage::Settling, next).quiet(),
-            Standing::Whole => self.settled(Stage::Waiting, next).quiet(),
-            Standing::Refused(why) => self.settled(Stage::Ended, next).refuse(why, out),
+            Ok(wanted) => match wanted {
+                Wanted::More => self.settled(Stage::Settling, next).quiet(),
+                Wanted::Whole => self.settled(Stage::Waiting, next).quiet(),
+            },
+            Err(why) => self.settled(Stage::Ended, next).refuse(why, out),
         }
     }
 
     fn begin(self, own: usize, floor: RoundLabel) -> Turned
         ensures { result ≡ record { next = running_with self (start_of (numbers_in self) own floor); written = Ok 0 } }
     {
-        let numbers = self.numbers();
-        self.running(Controller::begin(numbers, own, floor)).quiet()
+        self.running(Controller::begin(self.numbers(), own, floor))
+            .quiet()
     }
 
     // Before the first B every other message is 9.
@@ -80,12 +81,9 @@ impl Core {
     fn wait(self, line: Line, out: &mut [u8]) -> Turned
         ensures { Wrote (hears (λ a. waits_for self a.head) self line.message line.verdict) out.old out.new result }
     {
-        let verdict = line.verdict;
-        let message = line.message;
-        let head = message.head;
-        match verdict {
+        match line.verdict {
             Err(why) => self.refuse(why, out),
-            Ok(()) => self.wait_for(head, out),
+            Ok(()) => self.wait_for(line.message.head, out),
         }
     }
 
@@ -93,16 +91,15 @@ impl Core {
         ensures { Wrote (advancing self message) out.old out.new result }
     {
         let numbers = self.numbers();
-        let controller = self.controller;
-        let answer = controller.advance(numbers, message);
-        let next = answer.next;
-        let first = answer.first;
-        let second = answer.second;
-        let verdict = answer.verdict;
-        let written = put_answer(next, numbers, first, second, verdict, out);
+        let Said {
+            next,
+            first,
+            second,
+            verdict,
+        } = self.controller.advance(numbers, message);
         Turned {
             next: self.running(next),
-            written,
+            written: put_answer(next, numbers, first, second, verdict, out),
         }
     }
 
@@ -110,11 +107,9 @@ impl Core {
     fn run(self, line: Line, out: &mut [u8]) -> Turned
         ensures { Wrote (hears (advancing self) self line.message line.verdict) out.old out.new result }
     {
-        let verdict = line.verdict;
-        let message = line.message;
-        match verdict {
+        match line.verdict {
             Err(why) => self.refuse(why, out),
-            Ok(()) => self.advance(message, out),
+            Ok(()) => self.advance(line.message, out),
         }
     }
 
@@ -122,13 +117,9 @@ impl Core {
     pub(crate) fn first(self, carry: Carry, input: &[u8]) -> First
         ensures { (result.feed ≡ feed_at input.now) × ((feed_at input.now ≡ length input.now → ⊥) → Heard self (line_ending carry input.now) result.line self.stage) }
     {
-        let stage = self.stage;
-        let group = self.numbers().group;
-        match stage {
-            Stage::Settling => unread(input),
-            Stage::Waiting => first(carry, input, group),
-            Stage::Running => first(carry, input, group),
-            Stage::Ended => unread(input),
+        match self.stage {
+            Stage::Waiting | Stage::Running => first(carry, input, self.numbers().group),
+            Stage::Settling | Stage::Ended => unread(input),
         }
     }
 
@@ -144,10 +135,8 @@ impl Core {
         requires { Heard self (line_in carry (take n input.now)) line self.stage }
         ensures { Wrote (turn_by advancing self (line_in carry (take n input.now)) self.stage) out.old out.new result }
     {
-        let stage = self.stage;
-        let settling = self.settling;
-        match stage {
-            Stage::Settling => self.settle(take_on(carry, settling, input, n), out),
+        match self.stage {
+            Stage::Settling => self.settle(take_on(carry, self.settling, input, n), out),
             Stage::Waiting => self.wait(line, out),
             Stage::Running => self.run(line, out),
             Stage::Ended => self.quiet(),

@@ -33,6 +33,7 @@ pub(crate) fn meaning(got: isize, error: i32, part: &[u8]) -> Outcome
 }
 
 // What std says of a call, by the number that the system gave: how many bytes, or that it failed, by errno where it did.
+// By numbers: `outcome_of`, which is promised, is of errno's number; an error's kind would leave that promise out.
 pub(crate) fn said(answer: io::Result<usize>, part: &[u8]) -> Outcome
     requires { WritesAtMost answer part.now }
     ensures few { WritesAtMost result part.now }

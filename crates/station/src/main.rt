@@ -26,6 +26,8 @@ struct Handed {
     written: bool,
 }
 
+// `2 * line_top ≤ length out.old` is of lent memory, which each function borrows anew.
+
 // Hands the session what is left of a block, and writes what it answers.
 fn hand(to: &mut impl Write, session: Session, piece: &[u8], out: &mut [u8]) -> Handed
     requires { (1 ≤ length piece.now) × (2 * line_top ≤ length out.old) }
@@ -44,7 +46,7 @@ fn hand(to: &mut impl Write, session: Session, piece: &[u8], out: &mut [u8]) -> 
 fn goes_on(at: usize, have: usize, written: bool) -> bool
     ensures { result ≡ (ltb at have && written) }
 {
-    (at < have) & written
+    at < have && written
 }
 
 // A session after a block, and whether all its answers were written. No Result: `Handover` has the session after a write that failed too.
@@ -76,7 +78,7 @@ fn serve(to: &mut impl Write, session: Session, block: &[u8], have: usize, out: 
 fn reads_on(heard: Outcome, written: bool, ended: bool) -> bool
     ensures { result ≡ ((ltb 0 (result_unwrap_or heard 0) && written) && not ended) }
 {
-    (0 < heard.unwrap_or(0)) & written & !ended
+    0 < heard.unwrap_or(0) && written && !ended
 }
 
 fn output_failed(errors: &mut impl Write) {

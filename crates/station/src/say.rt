@@ -19,7 +19,7 @@ pub(crate) fn say(to: &mut impl Write, text: &[u8], n: usize) -> bool
     let mut at: usize = 0;
     let mut left = u64::MAX;
     // A while: a write takes a piece of any length.
-    while (at < n) & (0 < left) {
+    while at < n && 0 < left {
         let put = write_some(to, &text[at..n]);
         at += put.unwrap_or(0);
         left = writes_left(put, left);

@@ -12,8 +12,7 @@ use Rattle.units.specs.declared.refusal.Refusal.TheVariants.{Full}
 use Rattle.units.specs.Pick.{pick}
 use Rattle.fields.proofs.Cases.{by_lt}
 use Rattle.fields.specs.Put.{put, put_end}
-use Rattle.lines.specs.Writing.{Written}
-use Rattle.lines.specs.Writing.{answer_of, buffer_of, refusal_line}
+use Rattle.lines.specs.Writing.{Written, answer_of, buffer_of, refusal_line}
 use Rattle.store.specs.declared.count.Count.{Count}
 use Rattle.store.specs.declared.kept.Kept.{Kept}
 use Rattle.store.specs.declared.kept.Told.{Told}

@@ -1,10 +1,10 @@
 -- What the functions that look through rows need. Assumes nothing.
-use Prim.Native.Nat.{ℕ, ◌≤◌, ◌<◌}
-use mathlib.Core.Path.{◌≡◌, refl, sym, ◌∙◌}
+use Prim.Native.Nat.{ℕ, ◌<◌}
+use mathlib.Core.Path.{◌≡◌, refl, sym, ap, ◌∙◌}
 use mathlib.Core.Bool.{Bool, true, false, ◌&&◌}
 use mathlib.Core.List.{List, [], ◌∷◌}
 use native.Mathlib.Omega.{arith}
-use lib.Dec.{eqb, leb, ltb}
+use lib.Dec.{eqb}
 use lib.ListN.{length, get_or, take}
 use Rattle.std.proofs.Common.{ext_get_or}
 use borrow.Author.Tests.{eq-eqb, ne_eqb, eqb-true}
@@ -13,14 +13,12 @@ use Rattle.std.specs.List.{fold, list_any}
 use Rattle.std.proofs.lemmas.Bool.Decides.{same_from_decides, Decides-eqb}
 use Rattle.std.proofs.lemmas.Slice.Eq.{slice_eq-Decides}
 use Rattle.units.specs.Every.{every}
-use Rattle.units.specs.Pick.{pick}
 use Rattle.units.proofs.Every.{every_at, every_all}
 use Rattle.message.specs.declared.certificate.Certificate.{Certificate}
 use Rattle.store.specs.declared.row.Row.{Row}
 use Rattle.store.specs.Newest.{better, newest_from}
 use Rattle.store.specs.Repeated.{same_name, shares, place_of, stood_at}
 use Rattle.store.specs.Row.{no_row}
-use Rattle.store.specs.Runs.{is_blank}
 use Rattle.store.proofs.Firsts.{some_taken}
 use Rattle.store.proofs.Places.{past, row_at}
 
@@ -31,14 +29,9 @@ bytes_same xs ys a b =
     same_from_decides (pointwise eqb xs ys) (every same 16) (slice_eq-Decides Decides-eqb xs ys _ refl)
     (λ e. ext_get_or 0 xs ys (a ∙ sym b) (λ i l. eqb-true (get_or xs i 0) (get_or ys i 0) (every_at same 16 i e (omega arith))), λ q. every_all same 16 (λ i l. rw q (eq-eqb (get_or ys i 0) (get_or ys i 0) refl)))
 
-module _ (a b : Certificate) where
-  pub names_alike : (r : Bool) → length a.bytes ≡ 16 → length b.bytes ≡ 16 → a.len ≡ b.len → r ≡ pointwise eqb a.bytes b.bytes → r ≡ same_name a b
-  unfolding same_name
-  names_alike r x y e q = q ∙ bytes_same a.bytes b.bytes x y ∙ sym (rw (eq-eqb a.len b.len e))
-
-  pub names_apart : (a.len ≡ b.len → ⊥) → eqb a.len b.len ≡ same_name a b
-  unfolding same_name
-  names_apart n = rw (ne_eqb a.len b.len n)
+pub names_same : (a b : Certificate) (r : Bool) → length a.bytes ≡ 16 → length b.bytes ≡ 16 → r ≡ (eqb a.len b.len && pointwise eqb a.bytes b.bytes) → r ≡ same_name a b
+unfolding same_name
+names_same a b r x y q = q ∙ ap (◌&&◌ (eqb a.len b.len)) (bytes_same a.bytes b.bytes x y)
 
 -- two rows: on different days, and on one
 pub days_differ : (a b : Row) → (a.day ≡ b.day → ⊥) → false ≡ shares a b
@@ -66,12 +59,3 @@ module _ (s : Certificate) (d : ℕ) where
   unfolding newest_from
   newest_fold b [] = refl
   newest_fold b (r ∷ rs) = newest_fold (better s d b r) rs
-
-  -- a row that is newer
-  pub is_newer_lem : (b r : Row) (t : Bool) → t ≡ same_name r.serial s → (t && leb r.day d && ltb b.day r.day) ≡ true → r ≡ better s d b r
-  unfolding pick
-  is_newer_lem b r t e h = rw (← e, h)
-
--- A ROW that was found is none
-pub is_blank_lem : (rows : List Row) (m i : ℕ) → length rows ≡ 16 → m ≤ 16 → i < m → (get_or rows i past).day ≡ 0 → is_blank (get_or rows i no_row) ≡ true
-is_blank_lem rows m i l k h e = rw (← row_at rows i (omega arith)) (eq-eqb (get_or rows i past).day 0 e)

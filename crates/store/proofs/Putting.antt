@@ -19,10 +19,9 @@ use Rattle.message.specs.Settings.{settings_fit}
 use Rattle.fields.specs.Put.{put}
 use Rattle.fields.proofs.Cases.{absurd_by}
 use Rattle.fields.proofs.Puts.{put_room, mid_rest, put_rest}
-use Rattle.lines.specs.Writing.{Written}
 use Rattle.lines.specs.Lists.{joined}
 use Rattle.lines.specs.Settings.{setting_fits}
-use Rattle.lines.specs.Writing.{write_answer, write_buffer}
+use Rattle.lines.specs.Writing.{Written, write_answer, write_buffer}
 use Rattle.store.specs.declared.stored.Place.TheVariants.{Nowhere}
 use Rattle.store.specs.Runs.{run_at, runs_text}
 use Rattle.store.specs.Stored.{refused, says, answer_in, buffer_in}

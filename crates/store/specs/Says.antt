@@ -16,7 +16,7 @@ use Rattle.fields.specs.Lines.{lines_of}
 use Rattle.fields.specs.Text.{line_feed, until, fields_of}
 use Rattle.lines.specs.declared.kind.Kind.TheVariants.{Sizes, Filter}
 use Rattle.lines.specs.declared.settle.Settled.{Settled}
-use Rattle.lines.specs.declared.settle.Standing.TheVariants.{Whole}
+use Rattle.lines.specs.declared.settle.Wanted.TheVariants.{Whole}
 use Rattle.lines.specs.Reading.{ended_once}
 use Rattle.lines.specs.Settling.{settling_start, settle_all}
 use Rattle.lines.specs.Writing.{line_of}
@@ -115,7 +115,7 @@ abbrev pub Noise : ℕ → ℕ → ℕ → Type 0
 Noise q r p = ((1 ≤ q) × (q ≤ 1000000)) × ((1 ≤ r) × (r ≤ 1000000)) × ((1 ≤ p) × (p ≤ 1000000000))
 
 abbrev pub whole_as : ℕ → ℕ → ℕ → ℕ → ℕ → (ℕ → Row) → Settled
-whole_as g m q r p row = record { next = record { line = 3 + m; settings = settings_from g m q r p row }; answer = Whole }
+whole_as g m q r p row = record { next = record { line = 3 + m; settings = settings_from g m q r p row }; answer = Ok Whole }
 
 pub record ReadsBack (export day : List ℕ) (s : Serials) (text : List ℕ) (g q r p : ℕ) : Type 0 where
   pub rs : List Row

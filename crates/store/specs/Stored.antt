@@ -65,7 +65,7 @@ Stored = Result ℕ Refused
 abbrev pub refused : {A : Type 0} → Refusal → Place → Result A Refused
 refused why place = Err (record { why = why; place = place })
 
--- THE CHECKS as they are made, each with what it gives the next (`judged_outcome` of proofs/Writing.antt: one after the other they are the outcome)
+-- THE CHECKS as they are made, each with what it gives the next (proofs/Writing.antt: one after the other they are the outcome)
 abbrev pub Judged : Type 0
 Judged = Result (Unit {0}) Refused
 

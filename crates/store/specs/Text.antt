@@ -2,8 +2,7 @@
 use Rattle.std.specs.Prelude.{ℕ, List, leb, take, Ok, Err}
 use Rattle.units.specs.declared.refusal.Refusal.TheVariants.{Full}
 use Rattle.units.specs.Pick.{pick}
-use Rattle.lines.specs.Writing.{Written}
-use Rattle.lines.specs.Writing.{answer_of, buffer_of, refusal_line}
+use Rattle.lines.specs.Writing.{Written, answer_of, buffer_of, refusal_line}
 use Rattle.store.specs.declared.kept.Kept.{Kept}
 use Rattle.store.specs.declared.kept.Told.{Told}
 use Rattle.store.specs.declared.stored.Place.{Place}

@@ -6,6 +6,7 @@ use crate::gather::ROWS;
 use fields::text::LINE_FEED;
 
 // The lines so far, and whether the last has not ended.
+// Both count in every state: `within` tells of the last line, not of `lines`.
 #[derive(Clone, Copy)]
 pub struct Count {
     pub(crate) lines: usize,

@@ -18,12 +18,12 @@ pub struct BadLine {
 }
 
 // The place after the line that starts at a place.
+#[tactic(auto, using(crate::proofs::Gathering::end_fits, crate::proofs::Gathering::end_after, crate::proofs::Gathering::end_last))]
 fn line_end(export: &[u8], at: usize) -> usize
     requires { at ≤ length export.now }
     ensures { result ≡ min (length export.now) (at + feed_at (drop at export.now) + 1) }
 {
-    let seen = scan(&export[at..]);
-    let end = at + seen.feed;
+    let end = at + scan(&export[at..]).feed;
     if end < export.len() { end + 1 } else { end }
 }
 

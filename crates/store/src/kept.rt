@@ -46,9 +46,9 @@ fn tell(answer: Result<usize, Refused>, buf: &mut [u8]) -> Told
             len,
             place: Place::Nowhere,
         },
-        Err(Refused { why, place }) => match write_refusal(why, buf) {
-            Ok(len) => Told { len, place },
-            Err(_) => Told { len: 0, place },
+        Err(Refused { why, place }) => Told {
+            len: write_refusal(why, buf).unwrap_or(0),
+            place,
         },
     }
 }
@@ -74,6 +74,7 @@ impl Kept {
         }
     }
 
+    // (day, serials, buf) as they were handed in, each to another check.
     // The store's answer from what is kept.
     fn write(
         self,

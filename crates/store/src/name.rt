@@ -35,14 +35,13 @@ pub fn name_of(text: &[u8]) -> Certificate
 }
 
 // The name at a place, where the field there is one.
+#[tactic(auto, using(crate::proofs::Names::name_within, crate::proofs::Names::name_there, crate::proofs::Names::name_none))]
 pub(crate) fn name_at(text: &[u8], at: usize) -> Option<Named>
     ensures { result ≡ name_at text.now at }
 {
-    match certificate_end(text, at) {
-        Some(end) => Some(Named {
-            name: name_of(&text[at..end]),
-            next: end + 1,
-        }),
-        None => None,
-    }
+    let end = certificate_end(text, at)?;
+    Some(Named {
+        name: name_of(&text[at..end]),
+        next: end + 1,
+    })
 }

@@ -11,8 +11,7 @@ use message::Certificate;
 fn better_of(best: Row, row: Row, serial: Certificate, day: u64) -> Row
     ensures { result ≡ better serial day best row }
 {
-    let name = row.serial;
-    if same_name(name, serial) & (row.day <= day) & (best.day < row.day) {
+    if same_name(row.serial, serial) && row.day <= day && best.day < row.day {
         return row;
     }
     best

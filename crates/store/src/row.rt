@@ -3,6 +3,7 @@ ghost use Rattle.std.specs.Prelude.{◌≡◌};
 ghost use Rattle.store.specs.Row.{no_row, rest_at, row_at, row_of};
 
 use crate::name::{name_at, no_name};
+use fields::text::Scan;
 use fields::{read_day, read_factor, scan};
 use message::Certificate;
 use units::Refusal;
@@ -17,6 +18,7 @@ pub struct Row {
 }
 
 // No row: its day is no date.
+// No Option of a row: definition `newest` begins with it and goes by its day, 0, which is before every day (edits after_the_day, last_line_of_a_meter).
 pub(crate) fn no_row() -> Row
     ensures { result ≡ no_row }
 {
@@ -56,15 +58,14 @@ fn row_at(text: &[u8]) -> Result<Row, Refusal>
 }
 
 // A line of an export as a row, or its first refusal.
+#[tactic(auto, using(fields::proofs::Scans::scan_inside, crate::proofs::Reading::line_over, crate::proofs::Reading::line_open, crate::proofs::Reading::line_fields, crate::proofs::Reading::line_row))]
 pub fn row_of(line: &[u8]) -> Result<Row, Refusal>
     ensures { result ≡ row_of line.now }
 {
     if LINE < line.len() {
         return Err(Refusal::Long);
     }
-    let seen = scan(line);
-    let feed = seen.feed;
-    let tabs = seen.tabs;
+    let Scan { tabs, feed } = scan(line);
     if feed + 1 != line.len() {
         return Err(Refusal::Unended);
     }

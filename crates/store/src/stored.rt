@@ -16,6 +16,7 @@ pub struct Serials {
 // Where a refusal's cause stands.
 #[derive(Clone, Copy)]
 pub enum Place {
+    // A place like the others, by which `place_values` tells of a refusal that has none.
     Nowhere,
     Line { line: u32 },
     Day,

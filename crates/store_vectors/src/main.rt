@@ -19,32 +19,20 @@ const SERIAL: usize = 18;
 
 const SERIALS: usize = 288;
 
-fn say(rt: &impl Print, text: &[u8]) -> io::Result<()> {
-    rt.write_all(text)
-}
-
-fn tell(rt: &impl Print, n: u64) -> io::Result<()> {
-    rt.print(n)
-}
-
 // The number that digits at a place say, five at the most.
 fn number(text: &[u8], at: usize, n: usize) -> usize
     ensures { result < 100000 }
 {
-    match read_digits(text, at, n) {
-        Some(n) => (n % 100000) as usize,
-        None => 0,
-    }
+    (read_digits(text, at, n).unwrap_or(0) % 100000) as usize
 }
 
 fn serial(text: &[u8], at: usize) -> Certificate
     requires { at + 18 ≤ length text.now }
 {
     let name = name_of(&text[at + 2..at + SERIAL]);
-    let bytes = name.bytes;
     Certificate {
         len: number(text, at, 2),
-        bytes,
+        ..name
     }
 }
 
@@ -59,34 +47,23 @@ fn serials(text: &[u8], at: usize, m: usize) -> Serials
 
 fn tell_place(rt: &impl Print, place: Place) -> io::Result<()> {
     match place {
-        Place::Nowhere => say(rt, b"nowhere"),
-        Place::Line { line } => {
-            say(rt, b"line ")?;
-            tell(rt, u64::from(line))
-        }
-        Place::Day => say(rt, b"day"),
-        Place::Count => say(rt, b"serials"),
-        Place::Run { run } => {
-            say(rt, b"run ")?;
-            tell(rt, u64::from(run))
-        }
+        Place::Nowhere => println!(rt; "nowhere"),
+        Place::Line { line } => println!(rt; "line {line}"),
+        Place::Day => println!(rt; "day"),
+        Place::Count => println!(rt; "serials"),
+        Place::Run { run } => println!(rt; "run {run}"),
     }
 }
 
 fn tell_answer(rt: &impl Print, answer: Result<usize, Refused>) -> io::Result<()> {
-    tell(rt, u64::from(number_of(answer)))?;
-    say(rt, b" ")?;
+    let number = number_of(answer);
     match answer {
-        Ok(len) => {
-            tell(rt, len as u64)?;
-            say(rt, b" nowhere")?;
-        }
+        Ok(len) => println!(rt; "{number} {len} nowhere"),
         Err(refused) => {
-            say(rt, b"0 ")?;
-            tell_place(rt, refused.place)?;
+            print!(rt; "{number} 0 ")?;
+            tell_place(rt, refused.place)
         }
     }
-    say(rt, b"\n")
 }
 
 // Writes what is answered, and all that the buffer then holds.
@@ -97,10 +74,9 @@ fn tell_all(
     given: Serials,
     buf: &mut [u8],
 ) -> io::Result<()> {
-    let answer = write_runs(export, day, given, buf);
-    tell_answer(rt, answer)?;
-    say(rt, buf)?;
-    say(rt, b"\n")
+    tell_answer(rt, write_runs(export, day, given, buf))?;
+    rt.write_all(buf)?;
+    println!(rt; "")
 }
 
 // The case at a place: its export, its day and its serials start and end where these say.
@@ -147,6 +123,7 @@ fn judge_all(rt: &impl Print, text: &[u8]) -> io::Result<()>
 }
 
 // Reads until the bytes are full or the input ends, and says how many came.
+// In two programs: they have no library in common that reads.
 fn read_full(from: &mut impl Read, bytes: &mut [u8]) -> io::Result<usize>
     ensures { IfOk result (λ n. n ≤ length bytes.new) }
 {

@@ -1,5 +1,5 @@
 -- A call at each number below n: the array that they make, and whether all say true. Assumes nothing.
-use Rattle.std.proofs.Common.{◌≡◌, ℕ, zero, suc, ◌+◌, ◌<◌, ◌≤◌, Bool, List, length, get_or, take, refl, sym, ap, ◌∙◌, subst, add-one, zero-add, arith}
+use Rattle.std.proofs.Common.{◌≡◌, ℕ, zero, suc, ◌+◌, ◌<◌, ◌≤◌, Bool, List, get_or, take, refl, sym, ap, ◌∙◌, subst, add-one, zero-add, arith}
 use denote.Param.Members.{Mut}
 use lib.Seq.{take_all}
 use mathlib.Core.Logic.{by_cases}

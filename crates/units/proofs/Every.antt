@@ -3,7 +3,7 @@ use Prim.Native.Nat.{ℕ, zero, suc, ◌+◌, ◌<◌}
 use native.Mathlib.Omega.{arith}
 use native.Mathlib.Numerals.{add-one}
 use native.Mathlib.Decide.{dec_lt}
-use mathlib.Core.Path.{◌≡◌, refl}
+use mathlib.Core.Path.{◌≡◌, refl, sym, ◌∙◌}
 use mathlib.Core.Bool.{Bool, true, false, ◌&&◌}
 use mathlib.Core.Logic.{by_cases}
 use Rattle.units.specs.Every.{every}
@@ -21,10 +21,6 @@ pub and_true : (a : Bool) → a ≡ (a && true)
 and_true true = refl
 and_true false = refl
 
-pub every_none : (f : ℕ → Bool) (a : Bool) → a ≡ (a && every f 0)
-unfolding every
-every_none f a = and_true a
-
 pub every_from : (f : ℕ → Bool) (i : ℕ) (a fit r : Bool) → fit ≡ (a && every f i) → r ≡ f i → (fit && r) ≡ (a && every f (i + 1))
 unfolding every
 every_from f i true fit r p q = rw (add-one, p, q)
@@ -33,6 +29,15 @@ every_from f i false fit r p q = rw p
 -- the same, begun with true
 pub every_more : (f : ℕ → Bool) (i : ℕ) (fit r : Bool) → fit ≡ every f i → r ≡ f i → (fit && r) ≡ every f (i + 1)
 every_more f i fit r p q = every_from f i true fit r p q
+
+-- the code's `&&`: past a first test that holds the second is asked, past one that fails nothing
+pub then_both : {a p r q : Bool} → a ≡ p → a ≡ true → r ≡ q → r ≡ (p && q)
+then_both {p = true} e h k = k
+then_both {p = false} e h k = no_way (sym e ∙ h)
+
+pub else_both : {a p : Bool} (q : Bool) → a ≡ p → a ≡ false → a ≡ (p && q)
+else_both {p = true} q e h = no_way (sym h ∙ e)
+else_both {p = false} q e h = e
 
 pub and_left : (a b : Bool) → (a && b) ≡ true → a ≡ true
 and_left true b h = refl

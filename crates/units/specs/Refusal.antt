@@ -61,6 +61,10 @@ abbrev pub Verdict : Type 0
 Verdict = Result (Unit {0}) Refusal
 
 -- no refusal has the number 0
+-- the number of an answer: 0 where nothing is refused
+abbrev pub answer_number : {A : Type 0} → Result A Refusal → ℕ
+answer_number (Ok x) = 0
+answer_number (Err why) = number_of why
+
 abbrev pub verdict_number : Verdict → ℕ
-verdict_number (Ok tt) = 0
-verdict_number (Err why) = number_of why
+verdict_number v = answer_number v

@@ -12,6 +12,7 @@ pub struct RoundLabel(pub u32);
 #[derive(Clone, Copy, PartialEq, Eq, PartialOrd, Ord)]
 pub struct StateLabel(pub u32);
 
+// Each kind of label has its own comparisons, as document 01 has it, and no generic one serves both.
 impl RoundLabel {
     pub fn in_range(self) -> bool
         ensures { result ≡ round_fits self }

@@ -12,5 +12,5 @@ pub mod settings;
 
 pub use estimate::Estimate;
 pub use labels::{RoundLabel, StateLabel};
-pub use refusal::{Refusal, Verdict, is_number, verdict_number};
+pub use refusal::{Refusal, Verdict, answer_number, is_number};
 pub use settings::{Group, Numbers};

@@ -1,6 +1,6 @@
 // Why something was refused, and the number for it: 1 to 16 by document 01, 17 to 19 by request 1 for an export of the store.
 ghost use Rattle.std.specs.Prelude.{◌≡◌};
-ghost use Rattle.units.specs.Refusal.{is_number, number_of, verdict_number};
+ghost use Rattle.units.specs.Refusal.{answer_number, is_number, number_of};
 
 use crate::limits::{NUMBER_LOW, NUMBER_TOP};
 
@@ -20,6 +20,7 @@ pub enum Refusal {
     Undecided,
     Lacking,
     Behind,
+    // The reason by its number, which 15 carries: a refusal within a refusal would want a heap.
     Settings { line: u32, reason: u32 },
     Room,
     SameDay,
@@ -28,6 +29,7 @@ pub enum Refusal {
 }
 
 impl Refusal {
+    // No From: by definition `number_of`, whose table is document 01's.
     pub fn number(self) -> u32
         ensures { result ≡ number_of self }
     {
@@ -46,7 +48,7 @@ impl Refusal {
             Refusal::Undecided => 12,
             Refusal::Lacking => 13,
             Refusal::Behind => 14,
-            Refusal::Settings { line: _, reason: _ } => 15,
+            Refusal::Settings { .. } => 15,
             Refusal::Room => 16,
             Refusal::SameDay => 17,
             Refusal::NoneInForce => 18,
@@ -65,12 +67,12 @@ pub fn is_number(n: u32) -> bool
 // What an act says of itself: taken, or refused.
 pub type Verdict = Result<(), Refusal>;
 
-// The number of a verdict, 0 where it is taken.
-pub fn verdict_number(verdict: Verdict) -> u32
-    ensures { result ≡ verdict_number verdict }
+// The number of an answer, 0 where nothing is refused.
+pub fn answer_number<T: Copy>(answer: Result<T, Refusal>) -> u32
+    ensures { result ≡ answer_number answer }
 {
-    match verdict {
-        Ok(()) => 0,
+    match answer {
+        Ok(_) => 0,
         Err(why) => why.number(),
     }
 }

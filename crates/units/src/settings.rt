@@ -20,11 +20,12 @@ impl Group {
     pub fn in_range(self) -> bool
         ensures { result ≡ group_fits self }
     {
-        (1..=CONTROLLERS).contains(&self.g) & (1..=RUNS).contains(&self.m)
+        (1..=CONTROLLERS).contains(&self.g) && (1..=RUNS).contains(&self.m)
     }
 }
 
 // The settings without their certificates; places at m and above hold 0.
+// Factors and weights are a column each: `weight_sum` goes by the weights alone, and a struct of both in its place is no plainer.
 #[derive(Clone, Copy)]
 pub struct Numbers {
     pub group: Group,
@@ -47,9 +48,9 @@ fn place_in_range(run: bool, factor: u32, weight: u32) -> bool
     ensures { result ≡ place_fits run factor weight }
 {
     if run {
-        is_within(FACTOR_LOW, FACTOR_TOP, factor) & is_within(WEIGHT_LOW, WEIGHT_TOP, weight)
+        is_within(FACTOR_LOW, FACTOR_TOP, factor) && is_within(WEIGHT_LOW, WEIGHT_TOP, weight)
     } else {
-        (factor == 0) & (weight == 0)
+        factor == 0 && weight == 0
     }
 }
 
@@ -66,10 +67,9 @@ impl Numbers {
     pub fn in_range(self) -> bool
         ensures { result ≡ numbers_fit self }
     {
-        let group = self.group;
-        let noise = is_within(NOISE_LOW, NOISE_TOP, self.q)
-            & is_within(NOISE_LOW, NOISE_TOP, self.r);
-        let first = is_within(FIRST_LOW, FIRST_TOP, self.p);
-        group.in_range() & noise & first & self.runs_in_range()
+        self.group.in_range()
+            && (is_within(NOISE_LOW, NOISE_TOP, self.q) && is_within(NOISE_LOW, NOISE_TOP, self.r))
+            && is_within(FIRST_LOW, FIRST_TOP, self.p)
+            && self.runs_in_range()
     }
 }

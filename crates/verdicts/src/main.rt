@@ -2,8 +2,8 @@
 #![tactic(auto)]
 
 use std::io;
-use units::{Group, RoundLabel, StateLabel};
-use vote::{Decision, Digest, Poll, Seat, Votes};
+use units::{Group, Refusal, RoundLabel, StateLabel};
+use vote::{Digest, Seat, Votes};
 
 // A missing vote.
 fn none() -> Seat {
@@ -22,17 +22,14 @@ fn print_digest(rt: &impl Print, d: Digest) -> io::Result<()> {
     print!(rt; "({},{})", d.mask, d.state.0)
 }
 
-fn print_winner(rt: &impl Print, a: Poll) -> io::Result<()> {
+// What is said of votes: a digest, a text where it is none, or the refusal's number.
+fn print_answer(
+    rt: &impl Print,
+    a: Result<Option<Digest>, Refusal>,
+    nothing: &[u8],
+) -> io::Result<()> {
     match a {
-        Ok(None) => rt.write_all(b"nobody"),
-        Err(why) => rt.print(why.number()),
-        Ok(Some(d)) => print_digest(rt, d),
-    }
-}
-
-fn print_decision(rt: &impl Print, a: Decision) -> io::Result<()> {
-    match a {
-        Ok(None) => rt.write_all(b"no"),
+        Ok(None) => rt.write_all(nothing),
         Err(why) => rt.print(why.number()),
         Ok(Some(d)) => print_digest(rt, d),
     }
@@ -45,9 +42,9 @@ fn show(rt: &impl Print, g: usize, m: usize, n: u32, seats: [Seat; 7]) -> io::Re
         label: RoundLabel(n),
         seats,
     };
-    print_winner(rt, vote::winner(votes))?;
+    print_answer(rt, vote::winner(votes), b"nobody")?;
     rt.write_all(b"\t")?;
-    print_decision(rt, vote::decide(votes))?;
+    print_answer(rt, vote::decide(votes), b"no")?;
     rt.write_all(b"\n")
 }
 

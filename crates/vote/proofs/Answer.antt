@@ -15,11 +15,8 @@ use Rattle.units.specs.Pick.{pick}
 use Rattle.units.proofs.Every.{absurd_by}
 use Rattle.units.proofs.TheNumbers.{six}
 use Rattle.vote.specs.declared.digest.Digest.{Digest}
-use Rattle.vote.specs.Digest.{Ballot}
+use Rattle.vote.specs.Digest.{Ballot, Decision, Poll, rank, unrank}
 use Rattle.vote.specs.declared.votes.Votes.{Votes}
-use Rattle.vote.specs.Digest.{Decision}
-use Rattle.vote.specs.Digest.{Poll}
-use Rattle.vote.specs.Digest.{rank, unrank}
 use Rattle.vote.specs.Vote.{total, count, missing, Wins, Decides, Answers, Names, ballot_of, all_ballots, ballots, rank_of, votes_fit}
 use Rattle.vote.specs.Decision.{seat, ranks_of, strengths, largest, missing_of, held_off, rival_of, ruled_at, ruled, decision, strongest_at, winning}
 use Rattle.vote.proofs.Order.{same_dec, unrank_rank, rank_below}

@@ -9,8 +9,7 @@ use mathlib.Core.List.{List, [], ◌∷◌, ◌++◌}
 use mathlib.Core.Logic.{◌⊎◌, inl, inr, ⊎_elim, by_cases}
 use Rattle.units.specs.declared.labels.RoundLabel.{RoundLabel}
 use Rattle.vote.specs.declared.digest.Digest.{Digest}
-use Rattle.vote.specs.Digest.{Ballot}
-use Rattle.vote.specs.Digest.{legal, same}
+use Rattle.vote.specs.Digest.{Ballot, legal, same}
 use Rattle.vote.specs.Vote.{bit, votes_for, total, count, missing, Completes, done, kept, filled}
 use Rattle.vote.proofs.Order.{same_true, same_refl, same_dec}
 

@@ -10,8 +10,7 @@ use mathlib.Core.Logic.{⊎_elim, by_cases}
 use Rattle.units.specs.declared.labels.RoundLabel.{RoundLabel}
 use Rattle.vote.specs.Decision.{seat}
 use Rattle.vote.specs.declared.digest.Digest.{Digest}
-use Rattle.vote.specs.Digest.{Ballot}
-use Rattle.vote.specs.Digest.{legal, rank}
+use Rattle.vote.specs.Digest.{Ballot, legal, rank}
 use Rattle.vote.specs.Vote.{count, missing, Wins, Completes, DecidedFor}
 use Rattle.vote.proofs.Order.{Round, same_dec, rank_injective, rank_below}
 use Rattle.vote.proofs.Lexicographic.{lex_rank, not_larger}

@@ -11,10 +11,9 @@ use borrow.Author.Tests.{le-ltb}
 use Rattle.units.specs.declared.labels.RoundLabel.{RoundLabel}
 use Rattle.units.proofs.Every.{absurd_by, and_right}
 use Rattle.vote.specs.declared.digest.Digest.{Digest}
-use Rattle.vote.specs.Digest.{Ballot}
+use Rattle.vote.specs.Digest.{Ballot, legal}
 use Rattle.vote.specs.declared.votes.Seat.{Seat}
 use Rattle.vote.specs.declared.votes.Votes.{Votes}
-use Rattle.vote.specs.Digest.{legal}
 use Rattle.vote.specs.Vote.{votes_for, gap, total, count, missing, ballot_of, all_ballots, ballots, nobody, seat_fits, seat_at, votes_fit}
 use Rattle.vote.proofs.Order.{Round}
 use Rattle.vote.proofs.InRange.{seats_place, votes_three, votes_range}

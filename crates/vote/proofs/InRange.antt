@@ -21,10 +21,9 @@ use Rattle.units.proofs.Every.{no_way, and_left, and_right, and_both, and_three,
 use Rattle.units.proofs.InRange.{within_range, within_made, group_range, group_made}
 use Rattle.units.proofs.Masks.{mask_end_is}
 use Rattle.vote.specs.declared.digest.Digest.{Digest}
-use Rattle.vote.specs.Digest.{Ballot}
+use Rattle.vote.specs.Digest.{Ballot, legal}
 use Rattle.vote.specs.declared.votes.Seat.{Seat}
 use Rattle.vote.specs.declared.votes.Votes.{Votes}
-use Rattle.vote.specs.Digest.{legal}
 use Rattle.vote.specs.Vote.{nobody, seated, seat_fits, seat_at, seats_fit, votes_fit}
 use Rattle.vote.specs.InRange.{LegalDigest, VotedAt, SeatsInRange, VotesInRange}
 

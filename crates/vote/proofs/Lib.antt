@@ -6,7 +6,6 @@ pub mod Counting
 pub mod Exact
 mod Turns
 pub mod Facts
-mod Ruling
 pub mod Strength
 pub mod Rule
 pub mod Answer

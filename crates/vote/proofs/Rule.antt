@@ -13,8 +13,7 @@ use Rattle.units.specs.declared.labels.RoundLabel.{RoundLabel}
 use Rattle.units.specs.Pick.{pick}
 use Rattle.units.proofs.Every.{absurd_by}
 use Rattle.vote.specs.declared.digest.Digest.{Digest}
-use Rattle.vote.specs.Digest.{Ballot}
-use Rattle.vote.specs.Digest.{legal, rank, full, least}
+use Rattle.vote.specs.Digest.{Ballot, legal, rank, full, least}
 use Rattle.vote.specs.Vote.{count, rank_of}
 use Rattle.vote.specs.Decision.{seat, strength_of, strengths, largest, other_than, others_than, outsider, held_off, rival_of}
 use Rattle.vote.proofs.Order.{Round, same_dec, rank_injective, rank_below, full_legal, full_largest, least_legal, least_smallest}

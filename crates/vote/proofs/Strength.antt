@@ -11,8 +11,7 @@ use borrow.Author.Tests.{eq-eqb, ne_eqb}
 use Rattle.units.specs.declared.labels.RoundLabel.{RoundLabel}
 use Rattle.units.specs.Pick.{pick}
 use Rattle.vote.specs.declared.digest.Digest.{Digest}
-use Rattle.vote.specs.Digest.{Ballot}
-use Rattle.vote.specs.Digest.{legal, rank}
+use Rattle.vote.specs.Digest.{Ballot, legal, rank}
 use Rattle.vote.specs.Vote.{bit, votes_for, total, count, missing, rank_of}
 use Rattle.vote.specs.Decision.{seat, tally_of, strength_of, largest}
 use Rattle.vote.proofs.Order.{Round, same_dec, rank_injective, rank_below, least_smallest, least_some}

@@ -8,9 +8,7 @@ use Rattle.units.specs.declared.refusal.Refusal.TheVariants.{Range}
 use Rattle.units.specs.declared.settings.Group.{Group}
 use Rattle.vote.specs.declared.votes.Seat.{Seat}
 use Rattle.vote.specs.declared.votes.Votes.{Votes}
-use Rattle.vote.specs.Digest.{Decision}
-use Rattle.vote.specs.Digest.{Poll}
-use Rattle.vote.specs.Digest.{rank, unrank, full, least}
+use Rattle.vote.specs.Digest.{Decision, Poll, rank, unrank, full, least}
 use Rattle.vote.specs.Vote.{bit, ballot_of, rank_of, votes_fit}
 
 -- what one vote more adds to a strength; every rank lies below it

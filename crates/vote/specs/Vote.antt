@@ -8,12 +8,9 @@ use Rattle.units.specs.Limits.{controllers_top}
 use Rattle.units.specs.Refusal.{number_of}
 use Rattle.units.specs.Settings.{group_fits}
 use Rattle.vote.specs.declared.digest.Digest.{Digest}
-use Rattle.vote.specs.Digest.{Ballot}
+use Rattle.vote.specs.Digest.{Ballot, Decision, Poll, legal, same, Lex, rank}
 use Rattle.vote.specs.declared.votes.Seat.{Seat}
 use Rattle.vote.specs.declared.votes.Votes.{Votes}
-use Rattle.vote.specs.Digest.{Decision}
-use Rattle.vote.specs.Digest.{Poll}
-use Rattle.vote.specs.Digest.{legal, same, Lex, rank}
 
 abbrev pub bit : Bool → ℕ
 bit true = 1

@@ -8,7 +8,7 @@ use units::mask::{mask_end, mask_in_range};
 use units::{RoundLabel, StateLabel};
 
 // What a controller votes: the runs whose readings it holds, and the state that it holds.
-#[derive(Clone, Copy)]
+#[derive(Clone, Copy, PartialEq, Eq)]
 pub struct Digest {
     pub mask: u32,
     pub state: StateLabel,
@@ -18,62 +18,66 @@ pub struct Digest {
 fn size_of(mask: u32) -> u64
     ensures { (result ≡ ones mask) × (result ≤ 32) }
 {
-    u32::count_ones(mask) as u64
+    u64::from(mask.count_ones())
 }
 
 impl Digest {
     // Whether a controller may vote it in the round (m, label).
+    #[tactic(auto, unfolding(crate::specs::Digest::legal))]
     pub fn legal(self, m: usize, label: RoundLabel) -> bool
         ensures { result ≡ legal m label self }
     {
-        let state = self.state;
-        (m <= RUNS) & mask_in_range(m, self.mask) & state.before(label)
+        m <= RUNS && mask_in_range(m, self.mask) && self.state.before(label)
     }
 
+    #[tactic(auto, unfolding(crate::specs::Digest::same))]
     pub fn same(self, other: Digest) -> bool
         ensures { result ≡ same self other }
     {
-        let state = self.state;
-        (self.mask == other.mask) & state.same(other.state)
+        self == other
     }
 
     // Its place in the order of digests, as one number.
+    #[tactic(auto, unfolding(crate::specs::Digest::rank))]
     pub(crate) fn rank(self) -> u64
         ensures { result ≡ rank self }
     {
-        let state = self.state.0 as u64;
+        let state = u64::from(self.state.0);
         let held = size_of(self.mask);
-        let mask = self.mask as u64;
+        let mask = u64::from(self.mask);
         state * 2097152 + held * 65536 + mask
     }
 
     // The legal digest of a rank.
+    #[tactic(auto, unfolding(crate::specs::Digest::unrank))]
     pub(crate) fn unrank(n: u64) -> Digest
         ensures { result ≡ unrank n }
     {
-        let state = StateLabel((n / 2097152 % 4294967296) as u32);
         Digest {
             mask: (n % 65536) as u32,
-            state,
+            state: StateLabel((n / 2097152 % 4294967296) as u32),
         }
     }
 
     // All m runs and the state just before the label.
+    #[tactic(auto, unfolding(crate::specs::Digest::full))]
     pub(crate) fn full(m: usize, label: RoundLabel) -> Digest
         ensures { result ≡ full m label }
     {
-        let end = mask_end(m);
         Digest {
-            mask: end - 1,
+            mask: mask_end(m) - 1,
             state: label.previous(),
         }
     }
 
     // Run 0 alone and the state of a start.
+    #[tactic(auto, unfolding(crate::specs::Digest::least))]
     pub(crate) fn least() -> Digest
         ensures { result ≡ least }
     {
-        let state = StateLabel(0);
-        Digest { mask: 1, state }
+        Digest {
+            mask: 1,
+            state: StateLabel(0),
+        }
     }
 }

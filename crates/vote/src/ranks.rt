@@ -9,6 +9,7 @@ use units::limits::CONTROLLERS;
 // What one vote more adds to a strength: ranks lie below it.
 pub const SEAT: u64 = 72057594037927936;
 
+// 0 for a missing vote, and no Option: definitions `rank_of`, `strength_of` and `held_off` say so, and as the least number it needs no case of its own.
 pub(crate) fn ranks_of(seats: [Seat; 7]) -> [u64; 7]
     ensures { result ≡ ranks_of seats }
 {
@@ -23,6 +24,7 @@ pub(crate) fn tally(ranks: [u64; 7], x: u64) -> u64
 }
 
 // How often a vote stands there and, below that, its rank; 0 for a missing one.
+#[tactic(auto, unfolding(crate::specs::Decision::strength_of, units::specs::Pick::pick))]
 pub(crate) fn strength(ranks: [u64; 7], x: u64) -> u64
     ensures { result ≡ strength_of ranks x }
 {

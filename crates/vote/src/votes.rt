@@ -9,7 +9,7 @@ use units::{Group, RoundLabel};
 // A vote, or none yet.
 pub type Ballot = Option<Digest>;
 
-// A controller's place in the vote.
+// A controller's place in the vote: a struct around its ballot, since an Option can be given no methods here.
 #[derive(Clone, Copy)]
 pub struct Seat {
     pub ballot: Ballot,
@@ -25,13 +25,13 @@ pub struct Votes {
 
 impl Seat {
     // Whether a seat of the group holds a legal vote or none, and any other seat none.
+    #[tactic(auto, unfolding(crate::specs::Vote::seat_fits))]
     fn in_range(self, inside: bool, m: usize, label: RoundLabel) -> bool
         ensures { result ≡ seat_fits inside m label self.ballot }
     {
-        let ballot = self.ballot;
-        match ballot {
+        match self.ballot {
             None => true,
-            Some(d) => inside & d.legal(m, label),
+            Some(d) => inside && d.legal(m, label),
         }
     }
 
@@ -39,8 +39,7 @@ impl Seat {
     pub(crate) fn rank(self) -> u64
         ensures { result ≡ rank_of self.ballot }
     {
-        let ballot = self.ballot;
-        match ballot {
+        match self.ballot {
             None => 0,
             Some(d) => d.rank(),
         }
@@ -71,12 +70,12 @@ pub fn seats_in_range(seats: [Seat; 7], group: Group, label: RoundLabel) -> bool
 }
 
 impl Votes {
+    #[tactic(auto, unfolding(crate::specs::Vote::votes_fit))]
     pub fn in_range(self) -> bool
         ensures { result ≡ votes_fit self }
     {
-        let group = self.group;
-        let label = self.label;
-        let seats = self.seats;
-        group.in_range() & label.in_range() & seats_in_range(seats, group, label)
+        self.group.in_range()
+            && self.label.in_range()
+            && seats_in_range(self.seats, self.group, self.label)
     }
 }

@@ -1,12 +1,11 @@
 -- `read_decimal` meets its contract: what is left of the field, after the exact number so far, says what the whole says. Assumes nothing.
-use mathlib.Core.Path.{ap}
+use mathlib.Core.Path.{ap, ◌≡◌, refl, sym}
 use mathlib.Core.Bool.{not}
 use native.Mathlib.Omega.{arith}
-use mathlib.Core.Path.{◌≡◌, refl, sym}
 use lib.ListN.{length}
 use Rattle.fields.proofs.Reading.{read_start, plain_within, decimal_form, decimal_value, decimal_wrong, ends_none, ends_tab, long_again, read_grown, read_kept}
 use Rattle.fields.proofs.decimal.read_decimal.Goals as goal
-use Rattle.fields.proofs.decimal.read_decimal.Goals.{then-n, else-n}
+use Rattle.fields.proofs.decimal.read_decimal.Goals.{then-n-from, else-n-from}
 
 pub returns-then-not-is_plain : goal.returns-then-not-is_plain
 returns-then-not-is_plain c = decimal_form _ _ _ _ _ c.is_plain.ensures (ap not c.if-not-is_plain.true)
@@ -32,9 +31,9 @@ loop-i-preserved c = let l = c.loop-i in
     let w = c.if-d-gt9.false in (
       omega arith,
       long_again _ _ _ _ l.invariant.2 h n _ e _ l.invariant.1,
-      elim c.if-n.branch [
-        | then-n x ↦ rw x.n-is (read_grown _ _ _ _ l.invariant.2 h n _ e (omega arith) x.if-n.true)
-        | else-n x ↦ rw x.n-is (read_kept _ _ _ _ l.invariant.2 h n _ e (omega arith) x.if-n.false)
+      elim c.if-n-from.branch [
+        | then-n-from x ↦ rw x.n-is (read_grown _ _ _ _ l.invariant.2 h n _ e (omega arith) (rw c.from.ensures at x.if-n-from.true))
+        | else-n-from x ↦ rw x.n-is (read_kept _ _ _ _ l.invariant.2 h n _ e (omega arith) (rw c.from.ensures at x.if-n-from.false))
       ],
     )
 

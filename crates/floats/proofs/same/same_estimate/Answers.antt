@@ -1,8 +1,12 @@
 -- `same_estimate` meets its contract: both tests. Assumes nothing.
-use mathlib.Core.Path.{refl}
+use Rattle.units.proofs.Every.{then_both, else_both}
 use Rattle.floats.specs.Ranges.{same_estimate}
 use Rattle.floats.proofs.same.same_estimate.Goals as goal
 
-pub returns : goal.returns
+pub returns-then-same_float : goal.returns-then-same_float
 unfolding same_estimate
-returns c = rw (c.same_float.ensures, c.same_float-2.ensures) refl
+returns-then-same_float c = then_both c.same_float.ensures c.if-same_float.true c.same_float-then-same_float.ensures
+
+pub returns-else-same_float : goal.returns-else-same_float
+unfolding same_estimate
+returns-else-same_float c = else_both _ c.same_float.ensures c.if-same_float.false

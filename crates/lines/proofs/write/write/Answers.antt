@@ -1,5 +1,5 @@
 -- `write` meets its contract. Assumes nothing.
-use mathlib.Core.Path.{ap, ◌∙◌}
+use mathlib.Core.Path.{ap}
 use mathlib.Core.Bool.{not}
 use borrow.Author.Tests.{not-true, not-false}
 use Rattle.message.specs.Message.{message_fits}
@@ -15,4 +15,4 @@ returns c =
     let a = c.args in
     write_put (message_fits a.group a.message) _ c.in_range.ensures (spell_line a.group a.message) a.buf.now
     (not-false _ (ap not c.if-not-in_range.false)) _ _ _
-    (spelled a.group a.message _ _ c.kind_is.ensures (c.as_slice.ensures.0 ∙ c.numbers_of-numbers.ensures)) c.put_line.ensures
+    (spelled a.group a.message _ _ c.kind_is.ensures c.numbers_of-numbers.ensures) c.put_line.ensures

@@ -9,4 +9,4 @@ returns-then-is_plain c =
     plain_puts a.numbers a.c a.head (sym c.is_plain.ensures ∙ c.if-is_plain.true) a.out.now c.or_nothing.ensures c.write_plain.ensures
 
 pub returns : goal.returns
-returns c = let a = c.args in fit_puts a.numbers a.c a.head _ c.message-message.ensures a.out.now c.or_nothing-2.ensures c.write.ensures
+returns c = let a = c.args in fit_puts a.numbers a.c a.head _ c.message.ensures a.out.now c.or_nothing-2.ensures c.write.ensures

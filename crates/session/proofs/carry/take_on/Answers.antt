@@ -13,7 +13,7 @@ returns-then-is_empty c =
 pub returns : goal.returns
 returns c =
     let a = c.args in
-    let l = c.len-len.ensures in
-    let b = c.bytes-bytes.ensures in
+    let l = c.len.ensures in
+    let b = c.bytes.ensures in
     let e = sym c.is_empty.ensures ∙ c.if-is_empty.false in
     c.take_first-2.ensures ∙ ap (settle_line a.settling) ((λ i. take (l i) (b i)) ∙ sym (line_whole a.carry _ _ e c.hold-whole.ensures))

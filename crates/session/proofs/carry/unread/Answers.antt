@@ -5,4 +5,4 @@ use Rattle.session.proofs.carry.unread.Goals as goal
 
 pub returns : goal.returns
 unfolding scanned
-returns c = ap (λ s. s.feed) c.scan-seen.ensures
+returns c = ap (λ s. s.feed) c.scan.ensures

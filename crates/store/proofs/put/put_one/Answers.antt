@@ -1,8 +1,7 @@
 -- `put_one` meets its contract. Assumes nothing.
-use Rattle.store.proofs.Putting.{one_never}
+use Rattle.store.proofs.Putting.{one_never, one_put}
 use native.Mathlib.Omega.{arith}
 use Rattle.store.proofs.RunLines.{runs_top_lem}
-use Rattle.store.proofs.Putting.{one_put}
 use Rattle.store.proofs.put.put_one.Goals as goal
 
 pub returns-in-Err : goal.returns-in-Err

@@ -2,8 +2,7 @@
 use mathlib.Core.Path.{refl}
 use native.Mathlib.Omega.{arith}
 use Rattle.store.proofs.RunLines.{runs_top_lem}
-use Rattle.store.proofs.Putting.{puts_part, puts_more, puts_all}
-use Rattle.store.proofs.Putting.{puts_start}
+use Rattle.store.proofs.Putting.{puts_part, puts_more, puts_all, puts_start}
 use Rattle.store.proofs.put.put_runs.Goals as goal
 
 pub put_one-at-requires : goal.put_one-at-requires

@@ -1,6 +1,5 @@
 -- `write_lines` meets its contract. Assumes nothing.
-use Rattle.store.proofs.Putting.{all_put}
-use Rattle.store.proofs.Putting.{no_room}
+use Rattle.store.proofs.Putting.{all_put, no_room}
 use Rattle.store.proofs.put.write_lines.Goals as goal
 
 pub returns : goal.returns

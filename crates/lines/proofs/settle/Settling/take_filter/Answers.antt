@@ -1,30 +1,27 @@
 -- `Settling::take_filter` meets its contract. Assumes nothing.
 use mathlib.Core.Bool.{not}
-use mathlib.Core.Path.{refl, ap, ◌∙◌}
+use mathlib.Core.Path.{refl, ap}
 use Rattle.lines.specs.declared.kind.Kind.TheVariants.{Filter}
 use Rattle.lines.specs.Settling.{kept, with_filter}
-use Rattle.lines.proofs.Settlings.{was_kind, kind_start, plain_got, filter_are}
-use Rattle.lines.proofs.Openings.{none_read, fields_are}
+use Rattle.lines.proofs.Settlings.{was_kind, was_not, kind_start, plain_got, settled_err, filter_are}
+use Rattle.lines.proofs.Openings.{none_read}
 use Rattle.units.proofs.Picked.{by_no}
-use Rattle.lines.proofs.Settlings.{was_not}
 use Rattle.lines.proofs.settle.Settling.take_filter.Goals as goal
 
 pub read_values-requires : goal.read_values-requires
-read_values-requires c =
-    let l = c in let z = l in
-    (fields_are _ _ z.requires.1, kind_start Filter _ (was_kind l.is_kind.ensures (ap not l.if-not-is_kind.false)), none_read, refl)
+read_values-requires c = (kind_start Filter _ (was_kind c.is_kind.ensures (ap not c.if-not-is_kind.false)), none_read, refl)
 
-pub returns-in-Ok : goal.returns-in-Ok
-returns-in-Ok c =
-    let k = c in let l = k in let s = l.args.self in let t = c.in-Ok.is in
-    plain_got s Filter _ (was_kind l.is_kind.ensures (ap not l.if-not-is_kind.false)) k.any_group.ensures k.read_values.ensures (with_filter s.settings) t
-    (c.keep.ensures ∙ ap (kept s) (filter_are _ _ (k.read_values.ensures.rest t) s.settings c.with_filter.ensures))
+pub returns : goal.returns
+returns c =
+    let s = c.args.self in let t = c.in_ok-read_values.was in
+    plain_got s Filter _ (was_kind c.is_kind.ensures (ap not c.if-not-is_kind.false)) c.any_group.ensures c.read_values.ensures (with_filter s.settings) t
+    (ap (kept s) (filter_are _ _ (c.read_values.ensures.rest t) s.settings c.with_filter.ensures))
 
-pub returns-in-Err : goal.returns-in-Err
-returns-in-Err c =
-    let k = c in let l = k in let s = l.args.self in
-    plain_got s Filter _ (was_kind l.is_kind.ensures (ap not l.if-not-is_kind.false)) k.any_group.ensures k.read_values.ensures (with_filter s.settings)
-    c.in-Err.is c.stop-in-Err.ensures
+pub returns-in_err-read_values : goal.returns-in_err-read_values
+returns-in_err-read_values c =
+    let s = c.args.self in
+    plain_got s Filter _ (was_kind c.is_kind.ensures (ap not c.if-not-is_kind.false)) c.any_group.ensures c.read_values.ensures (with_filter s.settings)
+    c.in_err-read_values.was (settled_err _ _ _ c.from_residual.ensures.1)
 
 pub returns-then-not-is_kind : goal.returns-then-not-is_kind
-returns-then-not-is_kind c = by_no _ (was_not c.is_kind.ensures (ap not c.if-not-is_kind.true)) c.stop.ensures
+returns-then-not-is_kind c = by_no _ (was_not c.is_kind.ensures (ap not c.if-not-is_kind.true)) refl

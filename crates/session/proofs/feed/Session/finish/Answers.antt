@@ -9,5 +9,5 @@ pub returns : goal.returns
 returns c =
     let a = c.args in
     let k = a.self.core in
-    let l = c.last_of.ensures ∙ ap (λ (n : ℕ). last_of k.settling n k.stage) c.len.ensures in
-    finish_done a.self _ _ _ _ a.out.now _ c.settled.ensures l c.put_verdict-written.ensures c.line_done.ensures
+    let l = c.last_of-last.ensures ∙ ap (λ (n : ℕ). last_of k.settling n k.stage) c.len.ensures in
+    finish_done a.self _ _ _ _ a.out.now _ c.settled.ensures l c.put_verdict.ensures c.line_done.ensures

@@ -32,7 +32,7 @@ overflow_add-result c =
     let a = d.args in
     let f = d.feed-fed in
     let m = sym d.may_run.ensures ∙ not-false _ (ap not d.if-not-may_run.false) in
-    let l = rw r.numbers-numbers.ensures at r.run_lines-ran.ensures in
+    let l = rw r.numbers.ensures at r.run_lines-ran.ensures in
     let g = code_goes a.self a.input.now a.out.now _ f.ensures.1 f.result f.ensures.0 m r.run_lines-ran.result _ l in
     let t : length a.input.now < 18446744073709551616 = omega (arith, d.well_formed) in sum_fits _ _ g.0.0 t
 
@@ -43,7 +43,7 @@ overflow_add-result-2 c =
     let a = d.args in
     let f = d.feed-fed in
     let m = sym d.may_run.ensures ∙ not-false _ (ap not d.if-not-may_run.false) in
-    let l = rw r.numbers-numbers.ensures at r.run_lines-ran.ensures in
+    let l = rw r.numbers.ensures at r.run_lines-ran.ensures in
     let g = code_goes a.self a.input.now a.out.now _ f.ensures.1 f.result f.ensures.0 m r.run_lines-ran.result _ l in
     let t : length a.out.now < 18446744073709551616 = omega (arith, d.well_formed) in sum_fits _ _ g.0.1 t
 
@@ -54,7 +54,7 @@ returns c =
     let a = d.args in
     let f = d.feed-fed in
     let m = sym d.may_run.ensures ∙ not-false _ (ap not d.if-not-may_run.false) in
-    let l = rw r.numbers-numbers.ensures at r.run_lines-ran.ensures in
+    let l = rw r.numbers.ensures at r.run_lines-ran.ensures in
     let g = code_goes a.self a.input.now a.out.now _ f.ensures.1 f.result f.ensures.0 m r.run_lines-ran.result _ l in
     let w = r.run_lines-ran.result in
     let y = f.result in
