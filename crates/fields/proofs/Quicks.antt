@@ -65,12 +65,6 @@ pub record Running (text : List ℕ) (at n i : ℕ) : Type 0 where
   pub says : value_from 10 0 (digits_of 16 (drop at text)) ≡ value_from 10 n (digits_of (at + 16 - i) (drop i text))
   pub long : at + length (digits_of 16 (drop at text)) ≡ i + length (digits_of (at + 16 - i) (drop i text))
 
-pub run_start : (text : List ℕ) (at : ℕ) → at ≤ length text → Running text at 0 at
-run_start text at h =
-    let q : at + 16 - at ≡ 16 = omega arith in
-    let z : at - at ≡ 0 = omega arith in
-    record { after = omega arith; near = omega arith; inside = h; less = rw z (omega arith); says = rw q; long = rw q }
-
 digits_none : (k : ℕ) → digits_of k [] ≡ []
 unfolding digits_of
 digits_none zero = refl
@@ -230,9 +224,6 @@ sixteen_start text f at p =
     let l : length f ≡ 16 = ap length p.0 ∙ bytes_long text at 16 p.1 in
     record { long = l; less = omega arith; good = λ w. digits_start f 16 16 0 l; bad = λ w. absurd (omega arith) }
 
-pub sixteen_fits : (i : ℕ) → i < 16 → (0 + 1) * 16 ^ (i + 1) ≤ 2 ^ 64
-sixteen_fits i h = grown_fits 0 16 i h (omega arith)
-
 module _ (f : List ℕ) (n worst i : ℕ) (x : Sixteen f n worst i) (h : i < 16) (d : ℕ) (e : d ≡ digit_of (get_or f i 0)) where
   pub sixteen_less : n * 16 + d % 16 < (0 + 1) * 16 ^ (i + 1)
   sixteen_less = grown_less 0 16 n i (d % 16) (omega arith) (omega arith) x.less
@@ -293,9 +284,6 @@ start_none Factor = refl
 
 pub here_past : (text : List ℕ) (at : ℕ) (sp : Spelling) (low high : ℕ) → length text < at → Err Form ≡ read_here text at sp low high
 here_past text at sp low high h = here_wrong text at sp low high (rw (drop_of_length-le text {i = at} (omega arith)) (start_none sp))
-
-pub here_same : (text : List ℕ) (at low high : ℕ) (sp : Spelling) (r : Result Field Fault) (tp : Spelling) → sp ≡ tp → r ≡ read_here text at tp low high → r ≡ read_here text at sp low high
-here_same text at low high sp r tp e j = rw e j
 
 pub here_factor : (text : List ℕ) (at low high : ℕ) (sp : Spelling) → sp ≡ Factor → Err Form ≡ read_here text at sp low high
 unfolding start_of said_by factor_said

@@ -276,9 +276,6 @@ module _ (text : List ℕ) (at low high : ℕ) (b : Bool) (p : b ≡ plain (fiel
 
 -- `read_at`
 module _ (text : List ℕ) (at low high : ℕ) (sp : Spelling) (r : Result Field Fault) where
-  pub read_same : (tp : Spelling) → sp ≡ tp → r ≡ read_at text at tp low high → r ≡ read_at text at sp low high
-  read_same tp e j = rw e j
-
   pub read_hex4 : sp ≡ Hex4 → r ≡ judge sp low high (next_at text at) (fixed_in 16 4 0 (field_at text at)) → r ≡ read_at text at sp low high
   unfolding read_at read_field said_by
   read_hex4 e j = j ∙ rw e

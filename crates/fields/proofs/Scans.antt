@@ -40,9 +40,6 @@ pub record Passed (line : List ℕ) (i tabs : ℕ) : Type 0 where
   pub counted : tabs_in (until 10 line) ≡ tabs + tabs_in (until 10 (drop i line))
   pub placed : length (until 10 line) ≡ i + length (until 10 (drop i line))
 
-pub scan_start : (line : List ℕ) → Passed line 0 0
-scan_start line = record { few = omega arith; here = omega arith; counted = omega arith; placed = omega arith }
-
 scan_is : (line : List ℕ) (i tabs : ℕ) → Passed line i tabs → until 10 (drop i line) ≡ [] → record { tabs = tabs; feed = i } ≡ scanned line
 unfolding scanned tabs_in
 scan_is line i tabs p e =

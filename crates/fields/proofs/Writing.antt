@@ -2,7 +2,7 @@
 use Prim.Native.Nat.{ℕ, zero, suc, ◌+◌, ◌-◌, ◌*◌, ◌/◌, ◌%◌, ◌^◌, ◌≤◌, ◌<◌, max}
 use native.Mathlib.Nat.{pow-suc, pow-le-pow_right}
 use mathlib.Core.Path.{◌≡◌, refl, sym, ap, ◌∙◌}
-use mathlib.Core.List.{List, [], ◌∷◌, ◌++◌, append_assoc, append-nil}
+use mathlib.Core.List.{List, [], ◌∷◌, ◌++◌, append_assoc}
 use mathlib.Core.Bool.{Bool, true, false, not}
 use native.Mathlib.Omega.{arith}
 use lib.ListN.{length, take, drop, set}
@@ -76,9 +76,6 @@ pub record Left (base k n : ℕ) (l : List ℕ) (at : ℕ) (b : List ℕ) (i m :
   pub tail : List ℕ
   pub whole : fixed base k n ≡ fixed base i m ++ tail
   pub done : b ≡ sets l (at + i) tail
-
-pub left_start : (base k n : ℕ) (l : List ℕ) (at : ℕ) → Left base k n l at l k n
-left_start base k n l at = record { tail = []; whole = sym (append-nil (fixed base k n)); done = refl }
 
 fixed_less : (base j m : ℕ) (tail : List ℕ) → 0 < j → fixed base j m ++ tail ≡ fixed base (j - 1) (m / base) ++ (char_of (m % base) ∷ tail)
 unfolding fixed
