@@ -20,7 +20,7 @@ use Rattle.fields.proofs.Texts.{cursor_more}
 use Rattle.lines.specs.declared.kind.Kind.{Kind}
 use Rattle.lines.specs.Table.{letter_of, count_of}
 use Rattle.lines.specs.Reading.{Got, values, stop, limit_after, read_all, enough, read_rest, read_values}
-use Rattle.lines.specs.Walk.{Here, came_of, Walked, Filled}
+use Rattle.lines.specs.Walk.{Here, got_of, Walked, Filled}
 use Rattle.lines.proofs.Rows.{count_same}
 
 pub enough_heads : (k : Kind) (s : Group) (n : ℕ) → enough k s n ≡ true → count_of k s 0 ≤ n
@@ -44,7 +44,7 @@ module _ {k : Kind} {s : Group} {text v : List ℕ} {fields heads total : ℕ} (
     counted : length (later_fields text) ≡ total
     counted = sym fe ∙ q
 
-    rest_got : came_of r (take (length (later_fields text)) w) ≡ read_rest k s (later_fields text) (values (take heads v))
+    rest_got : got_of r (take (length (later_fields text)) w) ≡ read_rest k s (later_fields text) (values (take heads v))
     unfolding pick
     rest_got =
         let l : length (drop heads (later_fields text)) ≤ total - heads = let a = length-drop heads (later_fields text) in let n = counted in omega arith in
@@ -64,10 +64,10 @@ module _ {k : Kind} {s : Group} {text : List ℕ} {fields : ℕ} {b : Bool} (fe 
   values_few t l = filled_stop l (sym (rw (← fe, ← be, not-true b t)))
 
   module _ (t : not b ≡ false) {heads : ℕ} (he : heads ≡ count_of k s 0) {v w : List ℕ} {r : Result ℕ Refusal} (d : Walked k s text v w 0 heads r) where
-    head_got : came_of r (take heads w) ≡ read_all (limit_after k s) [] (take (count_of k s 0) (later_fields text))
+    head_got : got_of r (take heads w) ≡ read_all (limit_after k s) [] (take (count_of k s 0) (later_fields text))
     head_got = let q : heads - 0 ≡ count_of k s 0 = omega arith in d.got ∙ rw q
 
-    after_got : (g : Got) → g ≡ came_of r (take heads w) → read_rest k s (later_fields text) g ≡ read_values k s (later_fields text)
+    after_got : (g : Got) → g ≡ got_of r (take heads w) → read_rest k s (later_fields text) g ≡ read_values k s (later_fields text)
     unfolding read_values pick
     after_got g e = rw (← fe, ← be, not-false b t, ← head_got, e)
 

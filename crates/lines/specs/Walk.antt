@@ -15,16 +15,13 @@ Here text at k = k < length (later_fields text) → fields_of (drop at text) ≡
 abbrev pub Rest : List ℕ → ℕ → Type 0
 Rest v k = (i : ℕ) → k ≤ i → get_or v i 0 ≡ 0
 
-abbrev pub got_of : Verdict → List ℕ → Got
-got_of (Ok tt) vs = values vs
+-- the numbers, where nothing is refused
+abbrev pub got_of : {A : Type 0} → Result A Refusal → List ℕ → Got
+got_of (Ok x) vs = values vs
 got_of (Err why) vs = stop why
 
-abbrev pub came_of : Result ℕ Refusal → List ℕ → Got
-came_of (Ok at) vs = values vs
-came_of (Err why) vs = stop why
-
 pub record Walked (kind : Kind) (s : Group) (text v w : List ℕ) (from to : ℕ) (r : Result ℕ Refusal) : Type 0 where
-  pub got : came_of r (take to w) ≡ read_all (limit_after kind s) (take from v) (take (to - from) (drop from (later_fields text)))
+  pub got : got_of r (take to w) ≡ read_all (limit_after kind s) (take from v) (take (to - from) (drop from (later_fields text)))
   pub here : (at : ℕ) → r ≡ Ok at → Here text at to
   pub rest : (at : ℕ) → r ≡ Ok at → Rest w to
   pub long : length w ≡ 34

@@ -135,7 +135,7 @@ fn read_with_care(input: &[u8], group: Group) -> First
 }
 
 // The same, of a line whose numbers were read straight on to a place, where it has to end; it is read again with care where they were not, or where it goes on.
-#[inline(always)]
+#[inline(always)] // so that M, which has three numbers, keeps no more of them
 fn read_to(input: &[u8], kind: Kind, group: Group, v: &[u64; 34], trail: Option<usize>) -> First
     requires { (group_fits group ≡ true) × (0 < length input.now) × (kind_of (get_or input.now 0 0) ≡ Some kind) × ((at : ℕ) → trail ≡ Some at → Trod kind group input.now v.now (count_of kind group (get_or v.now 2 0)) at) }
     ensures { result ≡ first_line group input.now }

@@ -13,9 +13,8 @@ use fields::text::{TAB, is_at};
 use fields::{Fault, Field, Limit, read_decimal_here, read_here};
 use units::Group;
 
-// (input, kind, group, v): what is read, by what table, and where to; no two functions of another file share all.
-
 // Reads the numbers from place `from` up to `to`, each after its tab, and gives the place after them; nothing where one is not as it should be.
+// (input, kind, group, v): what is read, by what table, and where to; no two functions of another file share all.
 fn go_on(
     input: &[u8],
     kind: Kind,

@@ -8,9 +8,8 @@ use message::Head;
 use units::Refusal;
 use vote::{Decision, Digest};
 
-// (seat, digest, first) are the fields of one D and what goes out with it, put into an effect in each.
-
 // The round's end with the vote taken in: the phase becomes idle, all else is kept.
+// (seat, digest, first) are the fields of one D and what goes out with it, put into an effect in each.
 fn end(seat: usize, digest: Digest, first: Sent, why: Refusal) -> Plan
     ensures { result ≡ end_of seat digest first why }
 {

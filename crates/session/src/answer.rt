@@ -43,9 +43,8 @@ pub(crate) fn put_verdict(verdict: Verdict, out: &mut [u8]) -> Written
     }
 }
 
-// (second, verdict, out) go on as a step answered them: a struct of the first two would be made here to be taken apart at once.
-
 // What comes after the first line.
+// (second, verdict, out) go on as a step answered them: a struct of the first two would be made here to be taken apart at once.
 #[tactic(auto, unfolding(crate::specs::Feeding::rest_text))]
 fn put_rest(
     c: Controller,
@@ -77,7 +76,7 @@ fn put_first(out: &mut [u8], line: &[u8], n: usize)
 }
 
 // Two parts, or nothing where there is no room for both: the second is written first, past the place of the first.
-#[inline(never)]
+#[inline(never)] // so that its line is in no other frame
 fn put_both(
     c: Controller,
     numbers: Numbers,

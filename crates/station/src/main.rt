@@ -26,9 +26,8 @@ struct Handed {
     written: bool,
 }
 
-// `2 * line_top ≤ length out.old` is of lent memory, which each function borrows anew.
-
 // Hands the session what is left of a block, and writes what it answers.
+// `2 * line_top ≤ length out.old` is of lent memory, which each function borrows anew.
 fn hand(to: &mut impl Write, session: Session, piece: &[u8], out: &mut [u8]) -> Handed
     requires { (1 ≤ length piece.now) × (2 * line_top ≤ length out.old) }
     ensures { Hand session piece.now result.took (take result.wrote out.new) result.next }

@@ -1,4 +1,4 @@
--- One step of a loop over a list: what is left of it, and what is built of it. Assumes nothing.
+-- One step over a list: what is left of it; and the length of a list that is seen at some `map`. Assumes nothing.
 use Prim.Native.Nat.{ℕ, ◌+◌, ◌<◌}
 use native.Mathlib.Numerals.{add-one}
 use mathlib.Core.Path.{◌≡◌, sym, ◌∙◌}

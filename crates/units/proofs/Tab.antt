@@ -7,10 +7,6 @@ use native.Mathlib.Numerals.{lt-add-one}
 use borrow.Author.Count.{below_none, below_more}
 use lib.ListN.{length, get_or, set, length-set}
 use lib.Seq.{get_or-set_same, get_or-set_other, ext_get_or}
-use native.Mathlib.Omega.{arith}
-use denote.Param.Members.{Mut}
-use Rattle.std.specs.Fn.{Called}
-use Rattle.std.specs.Array.{IsFromFnResultFrom, IsFromFnResult}
 use Rattle.units.specs.Tab.{tab}
 
 module _ {A : Type 0} (f : ℕ → A) where
@@ -48,20 +44,6 @@ module _ {A : Type 0} (f : ℕ → A) where
 
   pub fill_done : (d : A) (k : ℕ) (xs₀ xs : List A) (i : ℕ) → Filled d k xs₀ xs i → k ≤ i → xs ≡ tab f 0 k
   fill_done d k xs₀ xs i h b = is_tab d k xs h.0 (λ j c. h.1 j (lt_of_lt_of_le c b))
-
-  -- ---- `array::from_fn`, whose closure stays as it is
-  module _ {F : Type 0} {g : Mut F (ℕ × Unit {0}) A} (c : F) (ys : List A) (d : A) (top : ℕ)
-      (each : (k : ℕ) (y : A) (q : F) → k < top → Called g c (k, tt) y q → (q ≡ c) × (y ≡ f k)) where
-    made_at : (i k j : ℕ) → IsFromFnResultFrom g c ys i k → i + k ≤ top → j < k → get_or ys (i + j) d ≡ f (i + j)
-    made_at i zero j r b h = absurd (not-suc-le-zero h)
-    made_at i (suc k) zero (q, y, at, call, r) b h = rw (add-zero i) (at.1 d ∙ (each i y q (omega arith) call).1)
-    made_at i (suc k) (suc j) (q, y, at, call, r) b h =
-        let e : i + 1 + j ≡ i + suc j = omega arith in
-        let P : F → Type 0 = λ z. IsFromFnResultFrom g z ys (i + 1) k in
-        rw e at (made_at (i + 1) k j (subst P (each i y q (omega arith) call).0 r) (omega arith) (omega arith))
-
-    pub tab_from_fn : IsFromFnResult g c ys top → ys ≡ tab f 0 top
-    tab_from_fn r = is_tab d top ys r.long (λ j b. rw (zero-add j) at (made_at 0 top j r.each (omega arith) b))
 
 -- functions that agree give one list
 pub tab_same : {A : Type 0} (f g : ℕ → A) (i k : ℕ) → ((j : ℕ) → f j ≡ g j) → tab f i k ≡ tab g i k

@@ -7,9 +7,8 @@ use crate::ranks::{SEAT, largest_of, largest_other, ranks_of, strengths_of, tall
 use crate::votes::Votes;
 use units::{Group, Refusal, RoundLabel};
 
-// `Decision` and `Poll` are one type under the two names that the definitions and pages have.
-
 // What a set of votes is decided for, if anything.
+// `Decision` and `Poll` are one type under the two names that the definitions and pages have.
 pub type Decision = Result<Option<Digest>, Refusal>;
 
 // The winner among the votes that are there, if any.
