@@ -18,8 +18,8 @@ use Rattle.units.proofs.Masks.{mask_end_is}
 use Rattle.floats.specs.Bits.{nought}
 use Rattle.floats.specs.Ranges.{state_fits}
 use Rattle.floats.proofs.Places.{state_exact, targets_exact}
+use Rattle.filter.specs.declared.checked.Uncomputed.{Uncomputed}
 use Rattle.filter.specs.declared.compute.Computed.{Computed}
-use Rattle.units.specs.declared.refusal.Refusal.{Refusal}
 use Rattle.units.specs.Pick.{pick}
 use Rattle.filter.specs.Compute.{computed}
 use Rattle.filter.specs.Checked.{reading_at, readings_fit, computing_fits, checked, left}
@@ -89,14 +89,14 @@ module _ (label : RoundLabel) (base : StateLabel) (state : List Estimate) (s : N
   -- in range: what `computed` gives
   pub checked_in : computing_fits label base state s chosen readings ≡ true
       → (checked label base state s chosen readings ≡ Ok (computed label base state s chosen readings))
-      × (left state (checked label base state s chosen readings) ≡ computed label base state s chosen readings)
+      × (left (checked label base state s chosen readings) ≡ computed label base state s chosen readings)
   unfolding checked pick
   checked_in h = rw h (refl, refl)
 
   -- out of range: 6, the state as it was, and every target +0
   pub checked_out : computing_fits label base state s chosen readings ≡ false
-      → (checked label base state s chosen readings ≡ Err Range)
-      × (left state (checked label base state s chosen readings) ≡ record { state = state; targets = replicate 16 nought })
+      → (checked label base state s chosen readings ≡ Err (record { why = Range; left = record { state = state; targets = replicate 16 nought } }))
+      × (left (checked label base state s chosen readings) ≡ record { state = state; targets = replicate 16 nought })
   unfolding checked pick
   checked_out h = rw h (refl, refl)
 
@@ -106,13 +106,13 @@ module _ (label : RoundLabel) (base : StateLabel) (state : List Estimate) (s : N
     where
       told : (b : Bool) → computing_fits label base state s chosen readings ≡ b → computing_fits label base state s chosen readings ≡ true
       told true e = e
-      told false e = absurd_by (let z : ◌≡◌ {A = Result Computed Refusal} (Err Range) (Ok r) = sym (checked_out e).0 ∙ h in cc)
+      told false e = absurd_by (let z : ◌≡◌ {A = Result Computed Uncomputed} (Err _) (Ok r) = sym (checked_out e).0 ∙ h in cc)
 
   -- and what is taken gives a state, a total and targets in range, whatever was handed in
   pub taken_range : (r : Computed) → checked label base state s chosen readings ≡ Ok r → ComputedInRange m r
   taken_range r h =
       let k = computing_parts (taken_computing r h) in
-      let e : computed label base state s chosen readings ≡ r = let z : ◌≡◌ {A = Result Computed Refusal} (Ok (computed label base state s chosen readings)) (Ok r) = sym (checked_in (taken_computing r h)).0 ∙ h in cc in
+      let e : computed label base state s chosen readings ≡ r = let z : ◌≡◌ {A = Result Computed Uncomputed} (Ok (computed label base state s chosen readings)) (Ok r) = sym (checked_in (taken_computing r h)).0 ∙ h in cc in
       subst (ComputedInRange m) e
       (record {
         estimates = (state_exact m _).0 (state_range label base state s chosen readings k.1);

@@ -4,7 +4,6 @@ use Rattle.units.specs.declared.labels.RoundLabel.{RoundLabel}
 use Rattle.units.specs.declared.labels.StateLabel.{StateLabel}
 use Rattle.units.specs.declared.estimate.Estimate.{Estimate}
 use Rattle.units.specs.declared.settings.Numbers.{Numbers}
-use Rattle.units.specs.declared.refusal.Refusal.{Refusal}
 use Rattle.units.specs.declared.refusal.Refusal.TheVariants.{Range}
 use Rattle.units.specs.Labels.{before}
 use Rattle.units.specs.Limits.{runs_top}
@@ -15,6 +14,7 @@ use Rattle.units.specs.Every.{every}
 use Rattle.units.specs.Settings.{numbers_fit}
 use Rattle.floats.specs.Bits.{nought}
 use Rattle.floats.specs.Ranges.{state_fits}
+use Rattle.filter.specs.declared.checked.Uncomputed.{Uncomputed}
 use Rattle.filter.specs.declared.compute.Computed.{Computed}
 use Rattle.filter.specs.Compute.{computed}
 
@@ -32,13 +32,14 @@ computing_fits label base state s chosen readings =
     (numbers_fit s && state_fits s.group.m state)
     && (before base label && mask_fits s.group.m chosen && readings_fit s.group.m readings)
 
--- in range or not: what is computed, or 6
-unfoldable pub checked : RoundLabel → StateLabel → List Estimate → Numbers → ℕ → List ℕ → Result Computed Refusal
+-- in range or not: what is computed, or 6 with the state as it was and every target +0
+unfoldable pub checked : RoundLabel → StateLabel → List Estimate → Numbers → ℕ → List ℕ → Result Computed Uncomputed
 unfolding computing_fits
 checked label base state s chosen readings =
-    pick (computing_fits label base state s chosen readings) (Ok (computed label base state s chosen readings)) (Err Range)
+    pick (computing_fits label base state s chosen readings) (Ok (computed label base state s chosen readings))
+    (Err (record { why = Range; left = record { state = state; targets = replicate runs_top nought } }))
 
--- what stands after computing: what it gave, or the state as it was and every target +0
-abbrev pub left : List Estimate → Result Computed Refusal → Computed
-left state (Ok c) = c
-left state (Err why) = record { state = state; targets = replicate runs_top nought }
+-- what stands after computing: what it gave, or what a refusal leaves
+abbrev pub left : Result Computed Uncomputed → Computed
+left (Ok c) = c
+left (Err u) = u.left

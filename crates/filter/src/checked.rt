@@ -29,13 +29,25 @@ fn computing_in_range(round: Round) -> bool
             && readings_in_range(m, round.readings))
 }
 
+// Why nothing was computed, and what stands then: the state as it was, and every target +0.
+#[derive(Clone, Copy)]
+pub struct Uncomputed {
+    pub why: Refusal,
+    pub left: Computed,
+}
+
 #[tactic(auto, unfolding(crate::specs::Checked::checked, units::specs::Pick::pick))]
-pub fn compute_checked(round: Round) -> Result<Computed, Refusal>
+pub fn compute_checked(round: Round) -> Result<Computed, Uncomputed>
     ensures { result ≡ checked round.label round.base round.state round.numbers round.chosen round.readings }
 {
     if computing_in_range(round) {
         Ok(compute(round))
     } else {
-        Err(Refusal::Range)
+        let state = round.state;
+        let targets = [0.0; 16];
+        Err(Uncomputed {
+            why: Refusal::Range,
+            left: Computed { state, targets },
+        })
     }
 }

@@ -8,5 +8,6 @@ pub mod run;
 pub mod runs;
 pub mod share;
 
+pub use checked::Uncomputed;
 pub use compute::{Computed, Round};
 pub use run::Outcome;

@@ -3,14 +3,15 @@
 // one clause of "in range" broken at a time; then 200 rounds of one run, in some of which (total × weight) / weight exceeds the total.
 #![tactic(auto)]
 
-ghost use Rattle.std.specs.Prelude.{◌<◌, ◌≤◌};
+ghost use Rattle.std.specs.Prelude.{◌≡◌, ◌<◌, ◌≤◌};
+ghost use Rattle.filter.specs.Checked.{left};
 
 use filter::checked::compute_checked;
-use filter::{Computed, Round};
+use filter::{Computed, Round, Uncomputed};
 use floats::bits::{VARIANCE_BITS, X_BITS, bits_of, float_of};
 use std::{array, io};
 use units::limits::{FACTOR_LOW, FACTOR_TOP, FIRST_TOP, NOISE_TOP, RAW_TOP, RUNS, WEIGHT_TOP};
-use units::{Estimate, Group, Numbers, Refusal, RoundLabel, StateLabel};
+use units::{Estimate, Group, Numbers, RoundLabel, StateLabel};
 
 // A turn of xorshift64.
 fn turn(s: u64) -> u64 {
@@ -180,10 +181,10 @@ fn readings_of(n: u32, m: usize) -> [u32; 16] {
 }
 
 // A round's verdict by its number, and where it was taken each run's x, P and target.
-fn show(rt: &impl Print, m: usize, answer: Result<Computed, Refusal>) -> io::Result<()> {
+fn show(rt: &impl Print, m: usize, answer: Result<Computed, Uncomputed>) -> io::Result<()> {
     let computed = match answer {
         Ok(computed) => computed,
-        Err(why) => return println!(rt; "{}", why.number()),
+        Err(uncomputed) => return println!(rt; "{}", uncomputed.why.number()),
     };
     println!(rt; "0")?;
     for (e, target) in computed.state.iter().zip(&computed.targets).take(m) {
@@ -193,6 +194,16 @@ fn show(rt: &impl Print, m: usize, answer: Result<Computed, Refusal>) -> io::Res
         println!(rt; "{x:016X}\t{variance:016X}\t{target:016X}")?;
     }
     Ok(())
+}
+
+// What a round leaves: what it computed, or what stands where it was refused.
+fn left_by(answer: Result<Computed, Uncomputed>) -> Computed
+    ensures { result ≡ left answer }
+{
+    match answer {
+        Ok(computed) => computed,
+        Err(uncomputed) => uncomputed.left,
+    }
 }
 
 // Sixteen rounds of a station.
@@ -211,9 +222,7 @@ fn play(rt: &impl Print, station: u32) -> io::Result<()> {
             chosen: chosen_of(draw(n, 84), m),
             readings: readings_of(n, m),
         });
-        if let Ok(computed) = c {
-            state = computed.state;
-        }
+        state = left_by(c).state;
         show(rt, m, c)?;
     }
     Ok(())
