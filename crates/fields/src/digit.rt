@@ -28,13 +28,13 @@ pub(crate) fn byte_of(d: u64) -> u8
     }
 }
 
-// The number that the k bytes from a place on say as digits to a base.
-pub(crate) fn digits_at<const BASE: u64>(text: &[u8], at: usize, k: usize) -> Option<u64>
-    requires { (0 < k) × (BASE ≤ 16) × (16 ^ k ≤ 2 ^ 64) }
-    ensures { result ≡ fixed_in BASE k 0 (take k (drop at text.now)) }
+// The number that the k bytes from a place on say as digits to a base, after digits that say `from`.
+pub(crate) fn digits_at<const BASE: u64>(text: &[u8], at: usize, k: usize, from: u64) -> Option<u64>
+    requires { (0 < k) × (BASE ≤ 16) × ((from + 1) * 16 ^ k ≤ 2 ^ 64) }
+    ensures { result ≡ fixed_in BASE k from (take k (drop at text.now)) }
 {
     let digits = text.get(at..)?.get(..k)?;
-    let mut n = 0;
+    let mut n = from;
     for b in digits {
         let d = digit(*b);
         if BASE <= d {
@@ -53,7 +53,7 @@ pub fn read_digits(text: &[u8], at: usize, n: usize) -> Option<u64>
     if !(1..=16).contains(&n) {
         return None;
     }
-    digits_at::<10>(text, at, n)
+    digits_at::<10>(text, at, n, 0)
 }
 
 // Puts the last k digits of a number to a base, from the last to the first.

@@ -14,7 +14,7 @@ pub(crate) fn read_hex(text: &[u8], at: usize, k: usize, limit: Limit) -> Result
     requires { (0 < k) × (k ≤ 16) }
     ensures { result ≡ judge limit.spelling limit.low limit.high (next_at text.now at) (fixed_in 16 k 0 (field_at text.now at)) }
 {
-    let n = digits_at::<16>(text, at, k).ok_or(Fault::Form)?;
+    let n = digits_at::<16>(text, at, k, 0).ok_or(Fault::Form)?;
     if !ends_at(text, at + k) {
         return Err(Fault::Form);
     }

@@ -122,7 +122,7 @@ fn mask_here(text: &[u8], at: usize, limit: Limit) -> Result<Field, Fault>
     requires { limit.spelling ≡ Spelling.Hex4 }
     ensures { result ≡ read_here text.now at limit.spelling limit.low limit.high }
 {
-    let n = digits_at::<16>(text, at, 4).ok_or(Fault::Form)?;
+    let n = digits_at::<16>(text, at, 4, 0).ok_or(Fault::Form)?;
     judged(limit, n, at + 4)
 }
 

@@ -5,10 +5,10 @@ use Rattle.fields.proofs.Reading.{bytes_got, digits_start, digits_wrong, digits_
 use Rattle.fields.proofs.digit.digits_at.Goals as goal
 
 pub returns-in_err-get : goal.returns-in_err-get
-returns-in_err-get g c = let a = c.args in c.from_residual.ensures ∙ digits_short a.text.now a.at a.k g.row.BASE 0 (omega arith) (omega (arith, c.in_err-get.ensures.lookup.0))
+returns-in_err-get g c = let a = c.args in c.from_residual.ensures ∙ digits_short a.text.now a.at a.k g.row.BASE a.from (omega arith) (omega (arith, c.in_err-get.ensures.lookup.0))
 
 pub returns-in_err-digits : goal.returns-in_err-digits
-returns-in_err-digits g c = let a = c.args in c.from_residual-in_err-digits.ensures ∙ digits_short a.text.now a.at a.k g.row.BASE 0 (omega arith) (omega (arith, c.in_ok-get.ensures.lookup.0, c.in_err-digits.ensures.lookup.0))
+returns-in_err-digits g c = let a = c.args in c.from_residual-in_err-digits.ensures ∙ digits_short a.text.now a.at a.k g.row.BASE a.from (omega arith) (omega (arith, c.in_ok-get.ensures.lookup.0, c.in_err-digits.ensures.lookup.0))
 
 pub loop-b-init : goal.loop-b-init
 loop-b-init g c = (digits_start _ _ _ _ (bytes_got c.args.text.now _ _ c.args.at c.args.k c.in_ok-get.ensures.lookup.0.2 c.in_ok-digits.ensures.lookup.0.1 c.in_ok-digits.ensures.lookup.0.2).1, omega arith)
@@ -23,8 +23,8 @@ overflow_mul-n g c =
     let l = c.loop-b in
     let a = c.args in
     let p = (bytes_got c.args.text.now _ _ c.args.at c.args.k c.in_ok-get.ensures.lookup.0.2 c.in_ok-digits.ensures.lookup.0.1 c.in_ok-digits.ensures.lookup.0.2).1 in
-    let f = grown_less 0 g.row.BASE l.n l.b-index c.digit-d.result (omega arith) (omega arith) l.invariant.1 in
-    let h = grown_fits 0 a.k l.b-index (omega (arith, p, c.loop-b-test.true)) (omega arith) in
+    let f = grown_less a.from g.row.BASE l.n l.b-index c.digit-d.result (omega arith) (omega arith) l.invariant.1 in
+    let h = grown_fits a.from a.k l.b-index (omega (arith, p, c.loop-b-test.true)) (omega arith) in
     omega arith
 
 pub overflow_add-n : goal.overflow_add-n
@@ -32,8 +32,8 @@ overflow_add-n g c =
     let l = c.loop-b in
     let a = c.args in
     let p = (bytes_got c.args.text.now _ _ c.args.at c.args.k c.in_ok-get.ensures.lookup.0.2 c.in_ok-digits.ensures.lookup.0.1 c.in_ok-digits.ensures.lookup.0.2).1 in
-    let f = grown_less 0 g.row.BASE l.n l.b-index c.digit-d.result (omega arith) (omega arith) l.invariant.1 in
-    let h = grown_fits 0 a.k l.b-index (omega (arith, p, c.loop-b-test.true)) (omega arith) in
+    let f = grown_less a.from g.row.BASE l.n l.b-index c.digit-d.result (omega arith) (omega arith) l.invariant.1 in
+    let h = grown_fits a.from a.k l.b-index (omega (arith, p, c.loop-b-test.true)) (omega arith) in
     omega arith
 
 pub loop-b-preserved : goal.loop-b-preserved
@@ -41,7 +41,7 @@ loop-b-preserved g c =
     let l = c.loop-b in
     let a = c.args in (
       digits_again _ _ _ _ _ _ _ l.invariant.0 c.loop-b-test.true c.digit-d.ensures c.if-d.false,
-      grown_less 0 g.row.BASE l.n l.b-index c.digit-d.result (omega arith) c.if-d.false l.invariant.1,
+      grown_less a.from g.row.BASE l.n l.b-index c.digit-d.result (omega arith) c.if-d.false l.invariant.1,
     )
 
 pub returns : goal.returns

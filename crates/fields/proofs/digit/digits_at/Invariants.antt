@@ -6,4 +6,4 @@ use Rattle.fields.specs.Digits.{value_from, fixed_in}
 use Rattle.fields.proofs.digit.digits_at.Given as goal
 
 abbrev pub invariant-loop-b : goal.invariant-loop-b
-invariant-loop-b g l = (fixed_in g.row.BASE l.k 0 l.digits ≡ value_from g.row.BASE l.n (drop l.b-index l.digits)) × (l.n < (0 + 1) * 16 ^ l.b-index)
+invariant-loop-b g l = (fixed_in g.row.BASE l.k l.from l.digits ≡ value_from g.row.BASE l.n (drop l.b-index l.digits)) × (l.n < (l.from + 1) * 16 ^ l.b-index)

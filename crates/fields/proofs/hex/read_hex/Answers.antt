@@ -8,7 +8,7 @@ use Rattle.fields.proofs.hex.read_hex.Goals as goal
 use Rattle.fields.proofs.hex.read_hex.Goals.{In_ok-n}
 
 pub digits_at-requires : goal.digits_at-requires
-digits_at-requires c = (omega arith, omega arith, hex_room _ (omega arith))
+digits_at-requires c = (omega arith, omega arith, omega (arith, hex_room c.args.k (omega arith)))
 
 within : (c : In_ok-n) → c.args.at + c.args.k ≤ length c.args.text.now
 within c = hex_within _ _ _ _ _ c.requires.0 c.digits_at.ensures (digits_on c.ok_or.ensures.value c.in_ok-n.was)
