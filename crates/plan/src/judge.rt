@@ -31,7 +31,7 @@ impl Brief {
     fn possesses(self, chosen: Digest) -> bool
         ensures { result ≡ possessed self chosen }
     {
-        chosen.mask & self.held == chosen.mask && chosen.state == self.state
+        chosen.mask & self.held == chosen.mask && chosen.state.same(self.state)
     }
 
     // The vote is decided: 14, then 13, else compute and send S.

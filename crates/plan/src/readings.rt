@@ -40,9 +40,9 @@ impl Brief {
     pub fn on_reading(self, here: u32, label: RoundLabel, run: usize, raw: u32) -> Plan
         ensures { result ≡ plan_reading self here label run raw }
     {
-        if !self.state.before(label) || label < self.label {
+        if !self.state.before(label) || label.below(self.label) {
             refusal(Refusal::Late)
-        } else if label == self.label {
+        } else if label.same(self.label) {
             self.reading_again(here, run, raw)
         } else {
             doing(Effect::Begin { label, run, raw })
@@ -76,7 +76,7 @@ impl Brief {
         if sender == self.own {
             return refusal(Refusal::Own);
         }
-        if label != self.label {
+        if !label.same(self.label) {
             return refusal(Refusal::Other);
         }
         match self.phase {
@@ -93,7 +93,7 @@ impl Brief {
         if sender == self.own {
             return refusal(Refusal::Own);
         }
-        if label != self.label {
+        if !label.same(self.label) {
             return refusal(Refusal::Other);
         }
         match self.phase {

@@ -16,7 +16,7 @@ impl Brief {
         if sender == self.own {
             return refusal(Refusal::Own);
         }
-        if theirs < self.state {
+        if theirs.below(self.state) {
             let update = Head::Update {
                 sender: self.own,
                 state: self.state,
@@ -43,13 +43,13 @@ impl Brief {
     fn adopt(self, theirs: StateLabel, same: bool, phase: Phase) -> Plan
         ensures { result ≡ adopted self theirs same phase }
     {
-        if self.state < theirs {
+        if self.state.below(theirs) {
             return doing(Effect::Adopt {
                 state: theirs,
                 phase,
             });
         }
-        if theirs < self.state || same {
+        if theirs.below(self.state) || same {
             return doing(Effect::Keep);
         }
         refusal(Refusal::Clash)

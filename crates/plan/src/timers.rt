@@ -35,7 +35,7 @@ impl Brief {
             mask,
         };
         let advert = Head::Advert { sender, state };
-        match (mask == 0, state < label.previous()) {
+        match (mask == 0, state.below(label.previous())) {
             (true, true) => sending(Effect::Keep, advert),
             (true, false) => doing(Effect::Keep),
             (false, true) => sending_both(Effect::Keep, query, advert),
@@ -48,7 +48,7 @@ impl Brief {
     pub fn on_due(self, m: usize, label: RoundLabel) -> Plan
         ensures { result ≡ plan_due self m label }
     {
-        if label != self.label {
+        if !label.same(self.label) {
             return refusal(Refusal::Other);
         }
         match self.phase {
@@ -62,7 +62,7 @@ impl Brief {
     pub fn on_collecting_ends(self, label: RoundLabel) -> Plan
         ensures { result ≡ plan_ends self label }
     {
-        if label != self.label {
+        if !label.same(self.label) {
             return refusal(Refusal::Other);
         }
         match self.phase {
@@ -81,7 +81,7 @@ impl Brief {
     pub fn on_voting_ends(self, label: RoundLabel) -> Plan
         ensures { result ≡ plan_voting_ends self label }
     {
-        if label != self.label {
+        if !label.same(self.label) {
             return refusal(Refusal::Other);
         }
         match self.phase {

@@ -24,7 +24,7 @@ impl Brief {
     pub fn on_floor(self, label: RoundLabel) -> Plan
         ensures { result ≡ plan_floor self label }
     {
-        if label != self.label {
+        if !label.same(self.label) {
             return refusal(Refusal::Other);
         }
         match self.phase {
@@ -70,7 +70,7 @@ impl Brief {
         if sender == self.own {
             return refusal(Refusal::Own);
         }
-        if label != self.label {
+        if !label.same(self.label) {
             return refusal(Refusal::Other);
         }
         match self.phase {
