@@ -151,6 +151,19 @@ pub put_digits : (sp : Spelling) (n : ℕ) (b : Bool) (l d f : List ℕ) (at k r
 put_digits sp n b l d f at k r e t q g p s =
     put_done l d at r (written sp n) (room_is l at (written sp n) b k e q t) (omega arith) (s ∙ rw g)
 
+-- a mask's digits are four: there is room for j of them, and they are its spelling, where j is 4
+module _ (sp : Spelling) (n m : ℕ) (lim : m ≡ limit sp) (h : n ≤ m) (k : ℕ) (q : k ≡ length (written sp n)) (e : sp ≡ Hex4) (b : Bool) (at : ℕ) (l : List ℕ) (be : b ≡ leb (at + k) (length l)) (t : not b ≡ false) where
+  pub four : k ≡ 4
+  four = q ∙ sym (width_hex4 sp n m lim h e)
+
+  pub mask_room : at + 4 ≤ length l
+  mask_room = let z = four in let r = room_here b at k (length l) be t in omega arith
+
+  pub mask_put : (j : ℕ) (d : List ℕ) (r : ℕ) → r ≡ at + j → d ≡ sets l at (fixed 16 j n) → j ≡ 4 → (r ≡ put_end l at (written sp n)) × (d ≡ put l at (written sp n))
+  mask_put j d r p s f =
+      let y : j ≡ k = f ∙ sym four in
+      put_digits sp n b l d (fixed 16 j n) at k r be t q (ap (λ (x : ℕ). fixed 16 x n) y ∙ digits_hex4 sp n m lim h k q e) (omega arith) s
+
 -- a float's digits are sixteen
 module _ (sp : Spelling) (n m : ℕ) (lim : m ≡ limit sp) (h : n ≤ m) (k : ℕ) (q : k ≡ length (written sp n)) (e : sp ≡ Hex16) (b : Bool) (at : ℕ) (l : List ℕ) (be : b ≡ leb (at + k) (length l)) (t : not b ≡ false) where
   sixteen : k ≡ 16
