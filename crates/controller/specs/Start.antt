@@ -3,7 +3,6 @@ use Rattle.std.specs.Prelude.{ℕ, Bool, true, false, ◌&&◌, List, ltb, repli
 use Rattle.vote.specs.Vote.{nobody}
 use Rattle.units.specs.declared.estimate.Estimate.{Estimate}
 use Rattle.units.specs.declared.labels.RoundLabel.{RoundLabel}
-use Rattle.units.specs.declared.refusal.Refusal.{Refusal}
 use Rattle.units.specs.declared.refusal.Refusal.TheVariants.{Range}
 use Rattle.units.specs.declared.settings.Numbers.{Numbers}
 use Rattle.units.specs.Labels.{floor_fits}
@@ -14,6 +13,7 @@ use Rattle.units.specs.Tab.{tab}
 use Rattle.floats.specs.Bits.{of_whole, nought}
 use Rattle.floats.specs.Ranges.{blank}
 use Rattle.plan.specs.declared.brief.Phase.TheVariants.{Idle}
+use Rattle.controller.specs.declared.start.Unstarted.{Unstarted}
 use Rattle.controller.specs.declared.state.Controller.{Controller}
 
 -- a place that is no run is blank
@@ -37,6 +37,6 @@ start_of s own floor =
       votes = replicate controllers_top nobody;
     }
 
--- 6 for a number, a floor or settings out of range
-unfoldable pub started : Numbers → ℕ → RoundLabel → Result Controller Refusal
-started s own floor = pick (numbers_fit s && ltb own s.group.g && floor_fits floor) (Ok (start_of s own floor)) (Err Range)
+-- 6 for a number, a floor or settings out of range; what the controller would be stands there too
+unfoldable pub started : Numbers → ℕ → RoundLabel → Result Controller Unstarted
+started s own floor = pick (numbers_fit s && ltb own s.group.g && floor_fits floor) (Ok (start_of s own floor)) (Err (record { why = Range; controller = start_of s own floor }))

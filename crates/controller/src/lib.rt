@@ -9,6 +9,7 @@ pub mod state;
 pub mod step;
 pub mod told;
 
+pub use start::Unstarted;
 pub use state::Controller;
 pub use step::{Answer, Said};
 pub use told::Told;

@@ -7,6 +7,13 @@ use plan::Phase;
 use units::{Estimate, Numbers, Refusal, RoundLabel, StateLabel};
 use vote::Seat;
 
+// Why a start was refused, and the controller that it would be.
+#[derive(Clone, Copy)]
+pub struct Unstarted {
+    pub why: Refusal,
+    pub controller: Controller,
+}
+
 // x = +0 and P = p for a run, +0 and +0 for any other place.
 fn start_place(run: bool, p: u32) -> Estimate
     ensures { result ≡ start_at run p }
@@ -41,15 +48,19 @@ impl Controller {
         }
     }
 
-    // 6 where the number, the floor or the settings are out of range.
+    // 6 where the number, the floor or the settings are out of range; the controller is that of the start then too.
     #[tactic(auto, unfolding(crate::specs::Start::started, units::specs::Pick::pick))]
-    pub fn start(numbers: Numbers, own: usize, floor: RoundLabel) -> Result<Controller, Refusal>
+    pub fn start(numbers: Numbers, own: usize, floor: RoundLabel) -> Result<Controller, Unstarted>
         ensures { result ≡ started numbers own floor }
     {
+        let controller = Controller::begin(numbers, own, floor);
         if numbers.in_range() && own < numbers.group.g && floor.floor_in_range() {
-            Ok(Controller::begin(numbers, own, floor))
+            Ok(controller)
         } else {
-            Err(Refusal::Range)
+            Err(Unstarted {
+                why: Refusal::Range,
+                controller,
+            })
         }
     }
 }

@@ -251,8 +251,8 @@ fn tried(rt: &impl Print, numbers: Numbers, own: usize, floor: u32) -> io::Resul
             print::number(rt, 0)?;
             print::controller(rt, c)
         }
-        Err(why) => {
-            print::number(rt, why.number())?;
+        Err(u) => {
+            print::number(rt, u.why.number())?;
             print::end(rt)
         }
     }

@@ -14,7 +14,6 @@ use borrow.Author.Tests.{lt-ltb, le-ltb, ltb-true, leb-true}
 use Rattle.units.specs.declared.estimate.Estimate.{Estimate}
 use Rattle.units.specs.declared.labels.RoundLabel.{RoundLabel}
 use Rattle.units.specs.declared.labels.StateLabel.{StateLabel}
-use Rattle.units.specs.declared.refusal.Refusal.{Refusal}
 use Rattle.units.specs.declared.refusal.Refusal.TheVariants.{Range}
 use Rattle.units.specs.declared.settings.Group.{Group}
 use Rattle.units.specs.declared.settings.Numbers.{Numbers}
@@ -48,6 +47,7 @@ use Rattle.plan.specs.declared.planned.Effect.TheVariants.{Issue}
 use Rattle.plan.specs.declared.planned.Plan.{Plan}
 use Rattle.plan.specs.Plan.{Sent, afterwards}
 use Rattle.plan.specs.Votes.{own_digest}
+use Rattle.controller.specs.declared.start.Unstarted.{Unstarted}
 use Rattle.controller.specs.declared.state.Controller.{Controller}
 use Rattle.controller.specs.Answers.{Answer}
 use Rattle.controller.specs.State.{brief_of, ballot_at, cast, controller_fits}
@@ -335,12 +335,12 @@ pub started_is : (s : Numbers) (own : ℕ) (floor : RoundLabel) (c : Controller)
 unfolding started pick
 started_is s own floor c = told (numbers_fit s && ltb own s.group.g && floor_fits floor)
   where
-    told : (b : Bool) → ◌≡◌ {A = Result Controller Refusal} (pick b (Ok (start_of s own floor)) (Err Range)) (Ok c) → c ≡ start_of s own floor
+    told : (b : Bool) → ◌≡◌ {A = Result Controller Unstarted} (pick b (Ok (start_of s own floor)) (Err (record { why = Range; controller = start_of s own floor }))) (Ok c) → c ≡ start_of s own floor
     told true h = sym (ap given h)
       where
-        given : Result Controller Refusal → Controller
+        given : Result Controller Unstarted → Controller
         given (Ok x) = x
-        given (Err why) = c
+        given (Err u) = c
     told false h = absurd_by (cc)
 
 -- a start that is taken is in range
@@ -348,6 +348,6 @@ pub started_fits : (s : Numbers) (own : ℕ) (floor : RoundLabel) (c : Controlle
 unfolding started pick
 started_fits s own floor c t = subst⁻¹ (λ (n : Controller). controller_fits s n ≡ true) (started_is s own floor c t) (tested (numbers_fit s && ltb own s.group.g && floor_fits floor) refl t)
   where
-    tested : (b : Bool) → (numbers_fit s && ltb own s.group.g && floor_fits floor) ≡ b → ◌≡◌ {A = Result Controller Refusal} (pick b (Ok (start_of s own floor)) (Err Range)) (Ok c) → controller_fits s (start_of s own floor) ≡ true
+    tested : (b : Bool) → (numbers_fit s && ltb own s.group.g && floor_fits floor) ≡ b → ◌≡◌ {A = Result Controller Unstarted} (pick b (Ok (start_of s own floor)) (Err (record { why = Range; controller = start_of s own floor }))) (Ok c) → controller_fits s (start_of s own floor) ≡ true
     tested true e h = let q = and_three (numbers_fit s) (ltb own s.group.g) (floor_fits floor) e in start_fits s own floor q.0 q.1 q.2
     tested false e h = absurd_by (cc)

@@ -187,8 +187,9 @@ module _ (s : Numbers) (own : ℕ) (floor : RoundLabel) where
   start_test : (numbers_fit s && ltb own s.group.g && floor_fits floor) ≡ true → StartInRange s own floor
   start_test h = let q = and_three (numbers_fit s) (ltb own s.group.g) (floor_fits floor) h in record { settings = q.0; number = ltb-true _ _ q.1; low = leb-true _ _ q.2 }
 
-  -- a start is taken exactly where settings, number and floor are in range, and is 6 otherwise
-  pub started_exact : (StartInRange s own floor → started s own floor ≡ Ok (start_of s own floor)) × ((StartInRange s own floor → ⊥) → started s own floor ≡ Err Range)
+  -- a start is taken exactly where settings, number and floor are in range, and is 6 otherwise; the controller is that of the start either way
+  pub started_exact : (StartInRange s own floor → started s own floor ≡ Ok (start_of s own floor))
+      × ((StartInRange s own floor → ⊥) → started s own floor ≡ Err (record { why = Range; controller = start_of s own floor }))
   unfolding started
   started_exact = (
     λ q. sym (by_yes _ (and_both (and_both q.settings (lt-ltb _ _ q.number)) (le-leb _ _ q.low)) refl),

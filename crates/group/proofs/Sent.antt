@@ -9,7 +9,6 @@ use mathlib.Core.Option.{Option, none, some, some-injective, none-ne-some}
 use lib.Dec.{eqb}
 use borrow.Author.Tests.{eqb-true, eqb-false, eq-eqb}
 use Rattle.units.specs.declared.labels.RoundLabel.{RoundLabel}
-use Rattle.units.specs.declared.refusal.Refusal.{Refusal}
 use Rattle.units.specs.declared.settings.Numbers.{Numbers}
 use Rattle.units.specs.Pick.{pick}
 use Rattle.fields.proofs.Cases.{by_test}
@@ -20,6 +19,7 @@ use Rattle.message.specs.declared.value.Message.{Message}
 use Rattle.message.specs.View.{as_start}
 use Rattle.message.proofs.Views.{start_seen, by_kind}
 use Rattle.plan.specs.Plan.{Sent}
+use Rattle.controller.specs.declared.start.Unstarted.{Unstarted}
 use Rattle.controller.specs.declared.state.Controller.{Controller}
 use Rattle.controller.specs.Answers.{Answer}
 use Rattle.controller.specs.Sent.{sent_message}
@@ -65,11 +65,11 @@ pub record Risen (s : Numbers) (h : Head) (n : Controller) : Type 0 where
 pub risen_by : (s : Numbers) (h : Head) (n : Controller) → rising s h ≡ some n → Risen s h n
 risen_by s h n e = by_kind (λ (k : Head). rising s k ≡ some n → Risen s k n) (λ v. from v.0 v.1 (started s v.0 v.1) refl) (λ k q r. no_one (rw q at r)) (start_seen h) e
   where
-    from : (own : ℕ) (low : RoundLabel) (v : Result Controller Refusal) → started s own low ≡ v → begun v ≡ some n → Risen s (Start own low) n
+    from : (own : ℕ) (low : RoundLabel) (v : Result Controller Unstarted) → started s own low ≡ v → begun v ≡ some n → Risen s (Start own low) n
     from own low (Ok c) q e =
         let z = started_is s own low c q in
         record { own = own; low = low; by = refl; taken = q ∙ ap Ok z; is = sym (same_one e) ∙ z }
-    from own low (Err why) q e = no_one e
+    from own low (Err u) q e = no_one e
 
 -- ---- the messages
 -- a message that a step has sent

@@ -3,13 +3,13 @@
 use Rattle.std.specs.Prelude.{ℕ, List, [], ◌∷◌, ◌++◌, eqb, Result, Ok, Err, None, Some}
 use Rattle.std.proofs.Math.Option.{Option, none, some}
 use Rattle.units.specs.declared.labels.RoundLabel.{RoundLabel}
-use Rattle.units.specs.declared.refusal.Refusal.{Refusal}
 use Rattle.units.specs.declared.settings.Numbers.{Numbers}
 use Rattle.units.specs.Pick.{pick}
 use Rattle.message.specs.declared.head.Head.{Head}
 use Rattle.message.specs.declared.value.Message.{Message}
 use Rattle.message.specs.View.{on_floor, on_start}
 use Rattle.plan.specs.Plan.{Sent}
+use Rattle.controller.specs.declared.start.Unstarted.{Unstarted}
 use Rattle.controller.specs.declared.state.Controller.{Controller}
 use Rattle.controller.specs.Answers.{Answer}
 use Rattle.controller.specs.Sent.{sent_message}
@@ -95,9 +95,9 @@ abbrev pub after_answer : Numbers → World → ℕ → Head → Answer → Worl
 after_answer s w i head r = record { up = put w.up i (some r.next); sent = sent_by s r w.sent; stored = w.stored; confirmed = confirms i head ++ w.confirmed }
 
 -- a start that is refused leaves the number down
-abbrev pub begun : Result Controller Refusal → Option Controller
+abbrev pub begun : Result Controller Unstarted → Option Controller
 begun (Ok c) = some c
-begun (Err why) = none
+begun (Err u) = none
 
 -- what is handed to a number that is down: B starts it, and anything else is lost
 abbrev pub rising : Numbers → Head → Option Controller
