@@ -4,7 +4,7 @@
 // or it says what is handed over as a value: a number of X (X), or a place of the settings read last that is changed (W).
 #![tactic(auto)]
 
-ghost use Rattle.std.specs.Prelude.{◌≤◌, IfOk, length};
+ghost use Rattle.std.specs.Prelude.{◌≡◌, ◌%◌, ◌≤◌, IfOk, length};
 
 use floats::bits::bits_of;
 use lines::read::read;
@@ -185,13 +185,15 @@ fn tell_settled(rt: &impl Print, settled: Settled) -> io::Result<()> {
 
 // The last four bits of a byte stand for its digit.
 fn digit(b: u8) -> usize
-    ensures { result ≤ 9 }
+    ensures { (result ≡ b % 16 % 10) × (result ≤ 9) }
 {
     (b % 16 % 10) as usize
 }
 
-// A decimal number.
-fn number(digits: &[u8]) -> u32 {
+// A decimal number; of three digits at the most it is below a thousand.
+fn number(digits: &[u8]) -> u32
+    ensures { length digits.now ≤ 3 → result ≤ 999 }
+{
     let n = digits
         .iter()
         .fold(0u64, |n, b| n % 4294967296 * 10 + digit(*b) as u64);
