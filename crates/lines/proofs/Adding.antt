@@ -4,7 +4,7 @@ use mathlib.Core.Path.{◌≡◌, refl, sym, ap, ◌∙◌}
 use mathlib.Core.List.{List, [], ◌∷◌, ◌++◌, append_assoc, append-nil}
 use native.Mathlib.Omega.{arith}
 use native.Mathlib.Numerals.{add-one}
-use lib.ListN.{length, get_or, length-append}
+use lib.ListN.{length, get_or, take, length-append}
 use Rattle.units.specs.declared.settings.Group.{Group}
 use Rattle.units.specs.Mask.{in_mask}
 use Rattle.units.specs.Pick.{pick}
@@ -13,8 +13,14 @@ use Rattle.message.specs.declared.head.Head.{Head}
 use Rattle.message.specs.declared.head.Head.TheVariants.{Reading, Query, Reply, Advert, Update, Vote, Setpoints, Due, CollectingEnds, VotingEnds, Floor, Start, Refused}
 use Rattle.message.specs.Head.{carried}
 use Rattle.fields.proofs.Cases.{by_test}
+use Rattle.lines.specs.declared.numbers.LineNumbers.TheInside.{Inside}
 use Rattle.lines.specs.Lists.{joined}
 use Rattle.lines.specs.Values.{head_values, raw_of}
+
+-- THE HEAD, over the fields of a line's numbers: the first n of them
+pub numbers_in_lem : {head k : Head} (n : ℕ) {vs : List ℕ} (r : Inside) → head ≡ k → (r.n ≡ n) × (take n r.v ≡ vs) × (length r.v ≡ 34) → vs ≡ head_values k → n ≡ length vs
+    → (r.n ≡ length (head_values head)) × (take r.n r.v ≡ head_values head) × (length r.v ≡ 34)
+numbers_in_lem n r e h w l = rw (e, ← w, h.0) (l, h.1, h.2)
 
 -- LISTS ADDED
 pub add_start : (f : ℕ → List ℕ) (from : List ℕ) → from ≡ from ++ joined f 0

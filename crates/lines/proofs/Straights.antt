@@ -1,5 +1,5 @@
 -- What the functions need that read a line straight on: one number more, and the whole line. Assumes nothing.
-use Rattle.std.specs.Prelude.{Option, Some, Result, Ok, Err}
+use Rattle.std.specs.Prelude.{Option, Some, None, Result, Ok, Err}
 use Rattle.std.specs.Result.{result_ok}
 use Prim.Native.Nat.{ℕ, suc, ◌+◌, ◌≤◌, ◌<◌}
 use mathlib.Core.Path.{◌≡◌, refl, sym, ap, ◌∙◌}
@@ -139,6 +139,16 @@ field_on {r = Err why} p e = absurd_by (cc)
 -- `go_on`
 abbrev pub Treading : Kind → Group → List ℕ → List ℕ → ℕ → List ℕ → ℕ → ℕ → Type 0
 Treading kind s input v₀ from v at k = Trod kind s input v k at × ((i : ℕ) → i < from → get_or v i 0 ≡ get_or v₀ i 0)
+
+-- what it gives: all numbers up to a place, where it gives the place after them; those before the first stay
+abbrev pub Came : Kind → Group → List ℕ → List ℕ → ℕ → ℕ → List ℕ → Option ℕ → Type 0
+Came kind s input v₀ from to v end = ((at : ℕ) → end ≡ Some at → Trod kind s input v to at) × ((i : ℕ) → i < from → get_or v i 0 ≡ get_or v₀ i 0)
+
+pub tread_stop : {kind : Kind} {s : Group} {input : List ℕ} (v₀ : List ℕ) (from : ℕ) {to : ℕ} {v : List ℕ} {at k : ℕ} → Treading kind s input v₀ from v at k → Came kind s input v₀ from to v None
+tread_stop v₀ from w = (λ x e. absurd_by (cc), w.1)
+
+pub tread_end : {kind : Kind} {s : Group} {input : List ℕ} (v₀ : List ℕ) (from : ℕ) {to : ℕ} {v : List ℕ} {at k : ℕ} → Treading kind s input v₀ from v at k → k ≤ to → to ≤ k → Came kind s input v₀ from to v (Some at)
+tread_end v₀ from {to} {v} {at} {k} w b h = let q : k ≡ to = omega arith in (λ x e. let z : at ≡ x = cc in rw (q, z) at w.0, w.1)
 
 pub tread_more : {kind : Kind} {s : Group} {input : List ℕ} (v₀ : List ℕ) (from : ℕ) {v : List ℕ} {at k : ℕ} → Treading kind s input v₀ from v at k → from ≤ k → k < 34
     → {t : Bool} → t ≡ starts 9 (drop at input) → t ≡ true → {label : ℕ} {l : Limit} {g : Result Field Fault} → label ≡ get_or (take k v) 1 0 → l ≡ limit_of kind k s label
