@@ -1,5 +1,5 @@
 // The numbers of a message's line, in the order of the line.
-ghost use Rattle.std.specs.Prelude.{◌≡◌, ℕ, List, [], ◌∷◌, ◌++◌, ◌+◌, ◌*◌, ◌<◌, ◌≤◌, length, take, true};
+ghost use Rattle.std.specs.Prelude.{◌≡◌, [], ◌∷◌, ◌++◌, ◌+◌, ◌*◌, ◌<◌, ◌≤◌, length, true};
 ghost use Rattle.message.specs.Message.{message_fits};
 ghost use Rattle.lines.specs.Lists.{joined};
 ghost use Rattle.lines.specs.Values.{floats_of, head_values, kind_is, raw_of, target_of, numbers_of};
@@ -12,26 +12,36 @@ use units::mask::has;
 use units::{Estimate, Group};
 
 // The numbers of a line, 34 at the most: the first n places count.
-#[derive(Drop)]
+#[derive(Clone, Copy)]
 pub struct LineNumbers {
     n: usize,
     v: [u64; 34],
 }
 
-// Clauses see the numbers.
+// Clauses see the numbers, and the places after them, which make the fields whole again: a `Copy` needs them.
 impl Model for LineNumbers {
-    ghost Value = { List ℕ };
+    ghost use Rattle.std.specs.Prelude.{◌≡◌, ℕ, List, ◌++◌, ◌≤◌, length, take, drop};
+    ghost use Rattle.std.proofs.Common.{arith, take-append-drop, length-take-le};
 
-    ghost view = { λ s. take s.n s.v };
+    ghost Value = { List ℕ × List ℕ };
 
-    ghost invariant = { λ s. s.n ≤ 34 };
+    ghost view = { λ s. (take s.n s.v, drop s.n s.v) };
+
+    ghost invariant = { λ s. (s.n ≤ 34) × (length s.v ≡ 34) };
+
+    ghost inverse = { λ p. record { n = length p.0; v = p.0 ++ p.1 } };
+
+    ghost inverse_ok = { λ s h i. record {
+      n = length-take-le s.n s.v (omega (arith, h.0, h.1)) i;
+      v = take-append-drop s.n s.v i;
+    } };
 }
 
 impl LineNumbers {
     // The numbers of a slice.
     pub(crate) fn of(numbers: &[u64]) -> LineNumbers
         requires { length numbers.now ≤ 34 }
-        ensures { result ≡ numbers.now }
+        ensures { result.0 ≡ numbers.now }
     {
         let n = numbers.len();
         let mut v = [0; 34];
@@ -41,23 +51,23 @@ impl LineNumbers {
 
     // Adds a number.
     fn push(&mut self, number: u64)
-        requires { length self.old < 34 }
-        ensures { self.new ≡ self.old ++ (number ∷ []) }
+        requires { length self.old.0 < 34 }
+        ensures { self.new.0 ≡ self.old.0 ++ (number ∷ []) }
     {
         self.v[self.n] = number;
         self.n += 1;
     }
 
     pub(crate) fn as_slice(&self) -> &[u64]
-        ensures { (result.now ≡ self.now) × (length self.now ≤ 34) }
+        ensures { (result.now ≡ self.now.0) × (length self.now.0 ≤ 34) }
     {
         &self.v[..self.n]
     }
 
     // Adds the readings of a mask's runs, lowest run first.
     fn push_readings(&mut self, mask: u32, readings: &[u32; 16])
-        requires { length self.old ≤ 4 }
-        ensures { self.new ≡ self.old ++ joined (raw_of mask readings.now) 16 }
+        requires { length self.old.0 ≤ 4 }
+        ensures { self.new.0 ≡ self.old.0 ++ joined (raw_of mask readings.now) 16 }
     {
         if mask == 0 {
             return;
@@ -71,8 +81,8 @@ impl LineNumbers {
 
     // Adds the floats of m runs.
     fn push_estimates(&mut self, m: usize, estimates: &[Estimate; 16])
-        requires { (length self.old + 2 * m ≤ 34) × (m ≤ 16) }
-        ensures { self.new ≡ self.old ++ joined (floats_of estimates.now) m }
+        requires { (length self.old.0 + 2 * m ≤ 34) × (m ≤ 16) }
+        ensures { self.new.0 ≡ self.old.0 ++ joined (floats_of estimates.now) m }
     {
         for e in &estimates[..m] {
             self.push(bits_of(e.x));
@@ -82,8 +92,8 @@ impl LineNumbers {
 
     // Adds the targets of m runs.
     fn push_targets(&mut self, m: usize, targets: &[f64; 16])
-        requires { (length self.old + m ≤ 34) × (m ≤ 16) }
-        ensures { self.new ≡ self.old ++ joined (target_of targets.now) m }
+        requires { (length self.old.0 + m ≤ 34) × (m ≤ 16) }
+        ensures { self.new.0 ≡ self.old.0 ++ joined (target_of targets.now) m }
     {
         for target in &targets[..m] {
             self.push(bits_of(*target));
@@ -115,7 +125,7 @@ pub(crate) fn kind_is(head: Head) -> Kind
 // The numbers of a head.
 #[tactic(auto, unfolding(crate::specs::Values::head_values))]
 pub(crate) fn head_numbers(head: Head) -> LineNumbers
-    ensures { result ≡ head_values head }
+    ensures { result.0 ≡ head_values head }
 {
     match head {
         Head::Reading { label, run, raw } => LineNumbers::of(&[
@@ -164,7 +174,7 @@ pub(crate) fn head_numbers(head: Head) -> LineNumbers
 // All numbers of a message in range.
 pub(crate) fn numbers_of(message: Message, group: Group) -> LineNumbers
     requires { message_fits group message ≡ true }
-    ensures { result ≡ numbers_of group message }
+    ensures { result.0 ≡ numbers_of group message }
 {
     let carried = message.head.carries(group);
     let mut numbers = head_numbers(message.head);

@@ -43,7 +43,7 @@ fn put_numbers(buf: &mut [u8], kind: Kind, numbers: &[u64]) -> usize
 
 // Whether so many bytes are enough for a line; they are counted only where the longest line of so many numbers would not fit.
 fn is_enough_for(len: usize, kind: Kind, numbers: &LineNumbers) -> bool
-    ensures { result ≡ leb (2 + length (tabbed (texts_to kind numbers.now (length numbers.now)))) len }
+    ensures { result ≡ leb (2 + length (tabbed (texts_to kind numbers.now.0 (length numbers.now.0)))) len }
 {
     let numbers = numbers.as_slice();
     if 2 + 17 * numbers.len() <= len {
@@ -54,7 +54,7 @@ fn is_enough_for(len: usize, kind: Kind, numbers: &LineNumbers) -> bool
 
 // Puts a whole line, or 16 where there is no room for it.
 pub(crate) fn put_line(buf: &mut [u8], kind: Kind, numbers: &LineNumbers) -> Written
-    ensures { (result ≡ answer_of (line_of kind numbers.now) buf.old) × (buf.new ≡ buffer_of (line_of kind numbers.now) buf.old) }
+    ensures { (result ≡ answer_of (line_of kind numbers.now.0) buf.old) × (buf.new ≡ buffer_of (line_of kind numbers.now.0) buf.old) }
 {
     if !is_enough_for(buf.len(), kind, numbers) {
         return Err(Refusal::Room);

@@ -6,4 +6,4 @@ use Rattle.lines.specs.Values.{floats_of}
 use Rattle.lines.proofs.numbers.LineNumbers.push_estimates.Given as goal
 
 abbrev pub invariant-loop-e : goal.invariant-loop-e
-invariant-loop-e l = l.self ≡ l.initial.self ++ joined (floats_of l.estimates) l.e-index
+invariant-loop-e l = l.self.0 ≡ l.initial.self.0 ++ joined (floats_of l.estimates) l.e-index

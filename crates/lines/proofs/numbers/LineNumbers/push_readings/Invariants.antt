@@ -6,4 +6,4 @@ use Rattle.lines.specs.Values.{raw_of}
 use Rattle.lines.proofs.numbers.LineNumbers.push_readings.Given as goal
 
 abbrev pub invariant-loop-i : goal.invariant-loop-i
-invariant-loop-i l = l.self ≡ l.initial.self ++ joined (raw_of l.mask l.readings) l.i
+invariant-loop-i l = l.self.0 ≡ l.initial.self.0 ++ joined (raw_of l.mask l.readings) l.i
