@@ -114,12 +114,13 @@ text_room : (m : ℕ) (row : ℕ → Row) → (1 ≤ m) × (m ≤ 16) → ((i : 
 unfolding settings_from
 text_room m row h usable = let a = text_short (settings_from 1 m 1 1 1 row) (one_fits m row h usable) m (omega arith) in omega arith
 
--- rows that agree below m give the same settings
+-- rows that agree below m give the same settings, and the same K lines
 module _ (m : ℕ) (row other : ℕ → Row) (same : (i : ℕ) → i < m → row i ≡ other i) where
   same_at : {A : Type 0} (f : Row → A) (none : A) (i : ℕ) → pick (ltb i m) (f (row i)) none ≡ pick (ltb i m) (f (other i)) none
   unfolding pick
   same_at f none i = by_lt i m (λ l. rw (same i l)) (λ l. rw (le-ltb i m l))
 
+  -- the settings
   pub settings_same : (g q r p : ℕ) → settings_from g m q r p row ≡ settings_from g m q r p other
   unfolding settings_from
   settings_same g q r p =
@@ -127,6 +128,10 @@ module _ (m : ℕ) (row other : ℕ → Row) (same : (i : ℕ) → i < m → row
         column_same (factor_at m row) (factor_at m other) 16 (λ i l. same_at (λ x. word x.factor) 0 i),
         column_same (certificate_at m row) (certificate_at m other) 16 (λ i l. same_at (λ x. x.certificate) no_one i),
       )
+
+  -- the K lines
+  pub text_same : text_of m row ≡ text_of m other
+  text_same = ap (λ (x : Settings). joined (run_at x) m) (settings_same 1 1 1 1)
 
 -- LINES ONE AFTER THE OTHER are the lines of their bytes
 line_first : (line rest : List ℕ) → Ended line → lines_of (line ++ rest) ≡ line ∷ lines_of rest

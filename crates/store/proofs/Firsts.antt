@@ -91,6 +91,12 @@ module _ (f : ℕ → Bool) where
 
 -- TESTS THAT AGREE below n
 module _ (f g : ℕ → Bool) where
+  -- it holds at some place of both or of neither
+  pub some_same : (n : ℕ) → ((i : ℕ) → i < n → f i ≡ g i) → some f n ≡ some g n
+  unfolding some
+  some_same zero h = refl
+  some_same (suc n) h = rw (some_same n (λ i l. h i (omega arith)), h n (omega arith))
+
   -- they have the same first place
   pub first_same : (n : ℕ) → ((i : ℕ) → i < n → f i ≡ g i) → first_of f n ≡ first_of g n
   unfolding first_of

@@ -1,10 +1,10 @@
 -- What the functions that look through rows need. Assumes nothing.
-use Prim.Native.Nat.{ℕ, ◌<◌}
+use Prim.Native.Nat.{ℕ, ◌≤◌, ◌<◌}
 use mathlib.Core.Path.{◌≡◌, refl, sym, ap, ◌∙◌}
 use mathlib.Core.Bool.{Bool, true, false, ◌&&◌}
 use mathlib.Core.List.{List, [], ◌∷◌}
 use native.Mathlib.Omega.{arith}
-use lib.Dec.{eqb}
+use lib.Dec.{eqb, leb, ltb}
 use lib.ListN.{length, get_or, take}
 use Rattle.std.proofs.Common.{ext_get_or}
 use borrow.Author.Tests.{eq-eqb, ne_eqb, eqb-true}
@@ -13,12 +13,14 @@ use Rattle.std.specs.List.{fold, list_any}
 use Rattle.std.proofs.lemmas.Bool.Decides.{same_from_decides, Decides-eqb}
 use Rattle.std.proofs.lemmas.Slice.Eq.{slice_eq-Decides}
 use Rattle.units.specs.Every.{every}
+use Rattle.units.specs.Pick.{pick}
 use Rattle.units.proofs.Every.{every_at, every_all}
 use Rattle.message.specs.declared.certificate.Certificate.{Certificate}
 use Rattle.store.specs.declared.row.Row.{Row}
 use Rattle.store.specs.Newest.{better, newest_from}
 use Rattle.store.specs.Repeated.{same_name, shares, place_of, stood_at}
 use Rattle.store.specs.Row.{no_row}
+use Rattle.store.specs.Runs.{is_blank}
 use Rattle.store.proofs.Firsts.{some_taken}
 use Rattle.store.proofs.Places.{past, row_at}
 
@@ -59,3 +61,14 @@ module _ (s : Certificate) (d : ℕ) where
   unfolding newest_from
   newest_fold b [] = refl
   newest_fold b (r ∷ rs) = newest_fold (better s d b r) rs
+
+  -- a row that is newer
+  pub is_newer_lem : (b r : Row) (t : Bool) → t ≡ same_name r.serial s → (t && leb r.day d && ltb b.day r.day) ≡ true → r ≡ better s d b r
+  unfolding pick
+  is_newer_lem b r t e h = rw (← e, h)
+
+-- A ROW that was found, or none
+module _ (rows : List Row) (m i : ℕ) (l : length rows ≡ 16) (k : m ≤ 16) (h : i < m) where
+  -- no row
+  pub is_blank_lem : (get_or rows i past).day ≡ 0 → is_blank (get_or rows i no_row) ≡ true
+  is_blank_lem e = rw (← row_at rows i (omega arith)) (eq-eqb (get_or rows i past).day 0 e)
