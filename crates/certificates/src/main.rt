@@ -2,8 +2,8 @@
 // and on standard error the place of what was refused.
 #![tactic(auto)]
 
-ghost use Rattle.std.specs.Prelude.{◌≡◌, ◌≤◌, length, MatchResult};
-ghost use Rattle.store.specs.declared.kept.Kept.{Kept};
+ghost use Rattle.std.specs.Prelude.{◌≡◌, ◌||◌, ◌≤◌, ltb, length, MatchResult};
+ghost use Rattle.certificates.specs.declared.Unheard.{Unheard};
 ghost use Rattle.certificates.specs.Hearing.{Hears};
 
 use message::Certificate;
@@ -73,20 +73,38 @@ fn tell_place(errors: &impl Print, place: Place) {
     };
 }
 
+// How it reads on: where a block came, or where a read was interrupted, which is made again.
+fn reads_on(n: usize, again: bool) -> bool
+    ensures { result ≡ (ltb 0 n || again) }
+{
+    0 < n || again
+}
+
+// A read that failed, and what was kept before it.
+#[derive(Drop)]
+struct Unheard {
+    kept: Kept,
+    error: io::Error,
+}
+
 // Reads standard input to its end, block by block, and keeps and counts all of it. An interrupted read is made again, the last one not.
-fn hear(from: &mut impl Read, held: &mut [u8]) -> io::Result<Kept>
-    ensures { MatchResult result (λ kept. Hears kept held.old held.new) (λ _. (kept : Kept) × Hears kept held.old held.new) }
+fn hear(from: &mut impl Read, held: &mut [u8]) -> Result<Kept, Unheard>
+    ensures { MatchResult result (λ kept. Hears kept held.old held.new) (λ (unheard : Unheard). Hears unheard.kept held.old held.new) }
 {
     let mut room = [0u8; 65536];
     let block: &mut [u8] = &mut room;
     let mut kept = Kept::start();
     for left in (0..u64::MAX).rev() {
         match from.read(block) {
-            Ok(0) => return Ok(kept),
-            Ok(n) => kept = kept.on(&block[..n], held),
-            Err(e) => {
-                if left == 0 || e.kind() != io::ErrorKind::Interrupted {
-                    return Err(e);
+            Ok(n) => {
+                if !reads_on(n, false) {
+                    return Ok(kept);
+                }
+                kept = kept.on(&block[..n], held);
+            }
+            Err(error) => {
+                if !reads_on(0, error.kind() == io::ErrorKind::Interrupted) || left == 0 {
+                    return Err(Unheard { kept, error });
                 }
             }
         }
