@@ -1,20 +1,22 @@
 -- Texts put into a lent buffer, and turns: what the code needs of the definitions. Assumes nothing.
-use Rattle.std.specs.Prelude.{Ok}
+use Rattle.std.specs.Prelude.{None, Ok, Some}
 use Prim.Native.Nat.{ℕ}
 use mathlib.Core.Path.{◌≡◌, refl, sym, ap, ◌∙◌}
-use mathlib.Core.List.{List, []}
+use mathlib.Core.List.{List, [], append-nil}
 use mathlib.Core.Bool.{Bool, true, false}
 use native.Mathlib.Omega.{arith}
 use lib.Dec.{ltb}
 use lib.ListN.{length}
 use borrow.Author.Tests.{le-ltb}
 use Rattle.units.specs.declared.refusal.Refusal.{Refusal}
+use Rattle.units.specs.Refusal.{Verdict}
 use Rattle.units.specs.declared.settings.Numbers.{Numbers}
 use Rattle.units.specs.Pick.{pick}
 use Rattle.message.specs.declared.head.Head.{Head}
 use Rattle.message.specs.declared.value.Message.{Message}
 use Rattle.message.specs.Head.{is_plain}
 use Rattle.message.specs.Message.{message_fits, plain}
+use Rattle.plan.specs.Plan.{Sent}
 use Rattle.fields.proofs.Cases.{by_test}
 use Rattle.lines.specs.Writing.{Written, answer_of, buffer_of, plain_fits, spell_line, write_answer, write_buffer}
 use Rattle.lines.proofs.Plain.{plain_same}
@@ -24,8 +26,8 @@ use Rattle.controller.specs.Sent.{sent_message}
 use Rattle.controller_laws.proofs.Sendings.{sent_plain}
 use Rattle.session.specs.declared.stage.Core.{Core}
 use Rattle.session.specs.declared.turn.Turned.{Turned}
-use Rattle.session.specs.Feeding.{Wrote, advances, fit_text, or_nothing, put_text}
-use Rattle.session.specs.Turn.{Turn, numbers_in, quiet, refusing, running_with}
+use Rattle.session.specs.Feeding.{Wrote, advances, fit_text, or_nothing, put_text, rest_text}
+use Rattle.session.specs.Turn.{Turn, numbers_in, quiet, refusing, running_with, verdict_text}
 
 -- a text and a buffer: what is answered, and the buffer after it
 abbrev pub Puts : List ℕ → List ℕ → List ℕ → Written → Type 0
@@ -75,3 +77,8 @@ fit_puts s c head m me before e h = rw (← me) (or_puts (message_fits s.group m
 pub plain_puts : (s : Numbers) (c : Controller) (head : Head) → is_plain head ≡ true → (before : List ℕ) {after : List ℕ} {w r : Written} → r ≡ or_nothing w
     → (w ≡ write_answer (plain_fits s.group head) (spell_line s.group (plain head)) before) × (after ≡ write_buffer (plain_fits s.group head) (spell_line s.group (plain head)) before) → Puts (fit_text s c head) before after r
 plain_puts s c head p before e h = fit_puts s c head (plain head) (sym (sent_plain s c head p)) before e (rw (plain_same s.group head p) at h)
+
+-- one line and nothing after it
+pub one_text : (s : Numbers) (c : Controller) (head : Head) {first second : Sent} {v : Verdict} → first ≡ Some head → second ≡ None → v ≡ Ok tt → put_text s c second v first ≡ fit_text s c head
+unfolding put_text rest_text verdict_text
+one_text s c head e f g = rw (e, f, g) (append-nil (fit_text s c head))
