@@ -1,5 +1,5 @@
 // What the system answers to a call that moves bytes, and how often a call is made again.
-ghost use Rattle.std.specs.Prelude.{◌≡◌, ◌≤◌, IfErr, IfOk, IsErr, Ok, length};
+ghost use Rattle.std.specs.Prelude.{◌≡◌, ◌-◌, ◌^◌, ◌≤◌, IfErr, IfOk, IsErr, Ok, length};
 ghost use Rattle.std.specs.Io.{WritesAtMost};
 ghost use Rattle.station.specs.Calls.{outcome_of, reads_again, writes_left};
 
@@ -17,6 +17,13 @@ pub enum Stop {
 
 // How many bytes were moved.
 pub type Outcome = Result<usize, Stop>;
+
+// More than any station lives to count.
+pub(crate) fn budget() -> u64
+    ensures { result ≡ 2 ^ 64 - 1 }
+{
+    u64::MAX
+}
 
 // What an answer means, by errno where it is negative: a call that a signal interrupted is made again.
 #[tactic(auto, unfolding(crate::specs::Calls::outcome_of, crate::specs::Calls::is_interrupt, units::specs::Pick::pick))]

@@ -1,7 +1,7 @@
 // Reading standard input.
 ghost use Rattle.std.specs.Prelude.{◌≤◌, IfOk, length};
 
-use crate::call::{Outcome, Stop, reads_again, said};
+use crate::call::{Outcome, Stop, budget, reads_again, said};
 use std::io::Read;
 
 fn read_some(input: &mut impl Read, block: &mut [u8]) -> Outcome
@@ -15,7 +15,7 @@ fn read_some(input: &mut impl Read, block: &mut [u8]) -> Outcome
 pub(crate) fn hear(input: &mut impl Read, block: &mut [u8]) -> Outcome
     ensures { IfOk result (λ n. n ≤ length block.old) }
 {
-    for _ in 0..u64::MAX {
+    for _ in 0..budget() {
         let got = read_some(input, block);
         if !reads_again(got) {
             return got;

@@ -10,7 +10,7 @@ ghost use Rattle.std.specs.Result.{result_unwrap_or};
 ghost use Rattle.units.specs.Limits.{line_top};
 ghost use Rattle.station.specs.Serving.{Hand, Handover};
 
-use call::Outcome;
+use call::{Outcome, budget};
 use hear::hear;
 use say::say;
 use session::Session;
@@ -126,8 +126,7 @@ fn main(rt: HostRuntime) {
     let out: &mut [u8] = &mut room;
     let mut read = true;
     let mut written = true;
-    // more blocks than any station lives to read
-    for _ in 0..u64::MAX {
+    for _ in 0..budget() {
         let heard = hear(&mut from, block);
         let served = serve(&mut to, session, block, heard.unwrap_or(0), out);
         session = served.next;

@@ -2,7 +2,7 @@
 ghost use Rattle.std.specs.Prelude.{◌≤◌, length};
 ghost use Rattle.std.specs.Io.{WritesAtMost};
 
-use crate::call::{Outcome, said, writes_left};
+use crate::call::{Outcome, budget, said, writes_left};
 use std::io::Write;
 
 fn write_some(to: &mut impl Write, part: &[u8]) -> Outcome
@@ -17,7 +17,7 @@ pub(crate) fn say(to: &mut impl Write, text: &[u8], n: usize) -> bool
     requires { n ≤ length text.now }
 {
     let mut at: usize = 0;
-    let mut left = u64::MAX;
+    let mut left = budget();
     // A while: a write takes a piece of any length.
     while at < n && 0 < left {
         let put = write_some(to, &text[at..n]);
