@@ -63,14 +63,21 @@ fn say(errors: &impl Print, text: &[u8]) {
     let _ = errors.write_all(text);
 }
 
+// A word, a number and the line's end, each written whatever became of the one before.
+fn tell_number(errors: &impl Print, what: &[u8], n: u32) {
+    say(errors, what);
+    let _ = print!(errors; "{n}");
+    say(errors, b"\n");
+}
+
 fn tell_place(errors: &impl Print, place: Place) {
-    let _ = match place {
-        Place::Nowhere => Ok(()),
-        Place::Line { line } => println!(errors; "line {line}"),
-        Place::Day => println!(errors; "day"),
-        Place::Count => println!(errors; "serials"),
-        Place::Run { run } => println!(errors; "run {run}"),
-    };
+    match place {
+        Place::Nowhere => {}
+        Place::Line { line } => tell_number(errors, b"line ", line),
+        Place::Day => say(errors, b"day\n"),
+        Place::Count => say(errors, b"serials\n"),
+        Place::Run { run } => tell_number(errors, b"run ", run),
+    }
 }
 
 // How it reads on: where a block came, or where a read was interrupted, which is made again.
