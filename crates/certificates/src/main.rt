@@ -87,11 +87,10 @@ fn reads_on(n: usize, again: bool) -> bool
     0 < n || again
 }
 
-// A read that failed, and what was kept before it.
-#[derive(Drop)]
+// What was kept before a read that failed.
+#[derive(Clone, Copy)]
 struct Unheard {
     kept: Kept,
-    error: io::Error,
 }
 
 // Reads standard input to its end, block by block, and keeps and counts all of it. An interrupted read is made again, the last one not.
@@ -111,7 +110,7 @@ fn hear(from: &mut impl Read, held: &mut [u8]) -> Result<Kept, Unheard>
             }
             Err(error) => {
                 if !reads_on(0, error.kind() == io::ErrorKind::Interrupted) || left == 0 {
-                    return Err(Unheard { kept, error });
+                    return Err(Unheard { kept });
                 }
             }
         }

@@ -151,18 +151,26 @@ pub put_digits : (sp : Spelling) (n : ℕ) (b : Bool) (l d f : List ℕ) (at k r
 put_digits sp n b l d f at k r e t q g p s =
     put_done l d at r (written sp n) (room_is l at (written sp n) b k e q t) (omega arith) (s ∙ rw g)
 
--- a mask's digits are four: there is room for j of them, and they are its spelling, where j is 4
+-- digits of one width w: there is room for them, and j of them are the spelling where j is w
+module _ (sp : Spelling) (n w k : ℕ) (q : k ≡ length (written sp n)) (z : k ≡ w) (b : Bool) (at : ℕ) (l : List ℕ) (be : b ≡ leb (at + k) (length l)) (t : not b ≡ false) where
+  wide_room : at + w ≤ length l
+  wide_room = let r = room_here b at k (length l) be t in omega arith
+
+  wide_put : fixed 16 k n ≡ written sp n → (j : ℕ) (d : List ℕ) (r : ℕ) → r ≡ at + j → d ≡ sets l at (fixed 16 j n) → j ≡ w → (r ≡ put_end l at (written sp n)) × (d ≡ put l at (written sp n))
+  wide_put g j d r p s f =
+      let y : j ≡ k = f ∙ sym z in
+      put_digits sp n b l d (fixed 16 j n) at k r be t q (ap (λ (x : ℕ). fixed 16 x n) y ∙ g) (omega arith) s
+
+-- a mask's digits are four
 module _ (sp : Spelling) (n m : ℕ) (lim : m ≡ limit sp) (h : n ≤ m) (k : ℕ) (q : k ≡ length (written sp n)) (e : sp ≡ Hex4) (b : Bool) (at : ℕ) (l : List ℕ) (be : b ≡ leb (at + k) (length l)) (t : not b ≡ false) where
   pub four : k ≡ 4
   four = q ∙ sym (width_hex4 sp n m lim h e)
 
   pub mask_room : at + 4 ≤ length l
-  mask_room = let z = four in let r = room_here b at k (length l) be t in omega arith
+  mask_room = wide_room sp n 4 k q four b at l be t
 
   pub mask_put : (j : ℕ) (d : List ℕ) (r : ℕ) → r ≡ at + j → d ≡ sets l at (fixed 16 j n) → j ≡ 4 → (r ≡ put_end l at (written sp n)) × (d ≡ put l at (written sp n))
-  mask_put j d r p s f =
-      let y : j ≡ k = f ∙ sym four in
-      put_digits sp n b l d (fixed 16 j n) at k r be t q (ap (λ (x : ℕ). fixed 16 x n) y ∙ digits_hex4 sp n m lim h k q e) (omega arith) s
+  mask_put = wide_put sp n 4 k q four b at l be t (digits_hex4 sp n m lim h k q e)
 
 -- a float's digits are sixteen
 module _ (sp : Spelling) (n m : ℕ) (lim : m ≡ limit sp) (h : n ≤ m) (k : ℕ) (q : k ≡ length (written sp n)) (e : sp ≡ Hex16) (b : Bool) (at : ℕ) (l : List ℕ) (be : b ≡ leb (at + k) (length l)) (t : not b ≡ false) where
@@ -170,12 +178,10 @@ module _ (sp : Spelling) (n m : ℕ) (lim : m ≡ limit sp) (h : n ≤ m) (k : �
   sixteen = q ∙ sym (width_hex16 sp n m lim h e)
 
   pub float_room : at + 16 ≤ length l
-  float_room = let z = sixteen in let r = room_here b at k (length l) be t in omega arith
+  float_room = wide_room sp n 16 k q sixteen b at l be t
 
   pub float_put : (d : List ℕ) (r : ℕ) → r ≡ at + 16 → d ≡ sets l at (fixed 16 16 n) → (r ≡ put_end l at (written sp n)) × (d ≡ put l at (written sp n))
-  float_put d r p s =
-      let z = sixteen in
-      put_digits sp n b l d (fixed 16 16 n) at k r be t q (ap (λ (x : ℕ). fixed 16 x n) (sym z) ∙ digits_hex16 sp n m lim h k q e) (omega arith) s
+  float_put d r p s = wide_put sp n 16 k q sixteen b at l be t (digits_hex16 sp n m lim h k q e) 16 d r p s refl
 
 pub put_same : (sp tp : Spelling) (n : ℕ) (l d : List ℕ) (at r : ℕ) → sp ≡ tp → (r ≡ put_end l at (written tp n)) × (d ≡ put l at (written tp n)) → (r ≡ put_end l at (written sp n)) × (d ≡ put l at (written sp n))
 put_same sp tp n l d at r e p = rw e p
